@@ -16,9 +16,9 @@ use Rattle.uda_disk.specs.Units.{Units, disks_of, AllSound, AreSoundBefore, AreW
 use Rattle.uda_disk.proofs.Successes.{whole_disk, whole_size, whole_blocks}
 use Rattle.uda50_copy.specs.Map.{is_within}
 use Rattle.uda50_copy.specs.Copy.{source_of, target_of, write_of, ChangesNoBlock, ReturnsBlocks, AreWritten}
-use Rattle.uda50_copy.specs.Report.{Report, reached, lost}
-use Rattle.uda50_copy.specs.Reports.{AreReports, Tells, TellsLost, TellsEnd, CopyStage, CopiesAsTold, IsCopiedBut, IsBlockOf, reached_end, is_lost}
-use Rattle.uda50_copy.specs.Changes.{HasOtherBlocks, ChangesOnly, ChangesWritten, HoldsWritten, IsTargetWrite, IsPieceOf, is_moved, is_written, Run, WriteStage, WritesAllBut, ReturnsWhole, IsSoundSource, AddsAllBut, RunsAsTold}
+use Rattle.uda50_copy.specs.Report.{CopyReport, reached, lost}
+use Rattle.uda50_copy.specs.Reports.{AreReports, AddsReports, ReportsLost, ReportsLastBlock, CopyStage, CopiesAsTold, IsCopiedBut, IsBlockOf, reached_end, is_told_lost}
+use Rattle.uda50_copy.specs.Changes.{HasOtherBlocks, ChangesWithin, ChangesWritten, HoldsWritten, IsTargetWrite, IsPieceOf, is_moved, is_written, CopyRun, WriteStage, WritesAllBut, ReturnsWhole, IsSoundSource, AddsAllBut, RunsAsTold}
 use Rattle.uda50_copy.proofs.Told.{told_end_within, are_reports_wider, not_lost, lost_within, is_lost_both, tells_both, tells_end, tells_lost_none, tells_lost_one, tells_lost_both, reached_end_both}
 use Rattle.uda50_copy.proofs.Written.{inside, is_inside, is_outside, writes_ran, writes_hold, pieces_write, piece_moves}
 
@@ -45,7 +45,7 @@ both_parts from mid to n l1 l2 first second one two = elim (cases_lt n mid) [
     or_last true = refl
     or_last false = refl
 
-all_but_both : (blocks : List (List ℕ)) (from mid to : ℕ) (told1 told2 : List Report) (writes1 writes2 : List Request)
+all_but_both : (blocks : List (List ℕ)) (from mid to : ℕ) (told1 told2 : List CopyReport) (writes1 writes2 : List Request)
     → from ≤ mid → mid ≤ to → AreReports from mid told1 → AreReports mid to told2
     → WritesAllBut blocks told1 writes1 from mid → WritesAllBut blocks told2 writes2 mid to
     → WritesAllBut blocks (told2 ++ told1) (writes1 ++ writes2) from to
@@ -55,8 +55,8 @@ all_but_both blocks from mid to told1 told2 writes1 writes2 first second are1 ar
       let parts = list_any-append (λ (r : Request). is_moved r.act n) writes1 writes2 in
       parts
       ∙ ap (λ (b : Bool). b || is_written writes2 n) (one.written n)
-      ∙ ap (λ (b : Bool). (is_within from mid n && not (is_lost told1 n)) || b) (two.written n)
-      ∙ both_parts from mid to n (is_lost told1 n) (is_lost told2 n) first second
+      ∙ ap (λ (b : Bool). (is_within from mid n && not (is_told_lost told1 n)) || b) (two.written n)
+      ∙ both_parts from mid to n (is_told_lost told1 n) (is_told_lost told2 n) first second
       (λ high. not_lost from mid told1 n are1 (inr high)) (λ low. not_lost mid to told2 n are2 (inl low))
       ∙ ap (λ (b : Bool). is_within from to n && not b) (sym (is_lost_both told2 told1 n));
 }
@@ -208,7 +208,7 @@ adds_to skips_lost from done to old new Is same adds =
     subst (λ (stop : ℕ). AddsAllBut (record { skips_lost = skips_lost; from = from; to = stop }) old new Is) same adds
 
 -- less is known of its blocks
-pub adds_of : (run : Run) (old new : WriteStage) (Is Other : List (List ℕ) → Type 0)
+pub adds_of : (run : CopyRun) (old new : WriteStage) (Is Other : List (List ℕ) → Type 0)
     → ((blocks : List (List ℕ)) → Other blocks → Is blocks) → AddsAllBut run old new Is → AddsAllBut run old new Other
 adds_of run old new Is Other is adds = record {
   tells = adds.tells;
@@ -219,7 +219,7 @@ adds_of run old new Is Other is adds = record {
 
 -- ---- what changes
 
-pub changes_only_none : (from to : ℕ) (units after : Units) → ChangesNoBlock units after → ChangesOnly from to units after
+pub changes_only_none : (from to : ℕ) (units after : Units) → ChangesNoBlock units after → ChangesWithin from to units after
 changes_only_none from to units after same = record {
   stays_sound = same.stays_sound;
   if_sound = λ well_formed sound. let stays = same.if_sound sound in record {
@@ -239,7 +239,7 @@ within_wider from to low high n first second out = elim (cases_Bool (is_within f
 ]
 
 pub changes_only_both : (from mid to : ℕ) (units between after : Units) → from ≤ mid → mid ≤ to
-    → ChangesOnly from mid units between → ChangesOnly mid to between after → ChangesOnly from to units after
+    → ChangesWithin from mid units between → ChangesWithin mid to between after → ChangesWithin from to units after
 changes_only_both from mid to units between after first second one two = record {
   stays_sound = record {
     sound_before = λ u sound. one.stays_sound.sound_before u (two.stays_sound.sound_before u sound);
@@ -256,8 +256,8 @@ changes_only_both from mid to units between after first second one two = record 
       };
 }
 
-pub changes_only_wider : (from mid to : ℕ) (units after : Units) → mid ≤ to → ChangesOnly from mid units after
-    → ChangesOnly from to units after
+pub changes_only_wider : (from mid to : ℕ) (units after : Units) → mid ≤ to → ChangesWithin from mid units after
+    → ChangesWithin from to units after
 changes_only_wider from mid to units after wider one = record {
   stays_sound = one.stays_sound;
   if_sound = λ well_formed sound. let a = one.if_sound well_formed sound in record {
@@ -318,13 +318,13 @@ holds_written_by units after requests answers told before run well_formed sound 
 -- ---- a run of a copy
 
 -- the source of a run whose Reads succeeded, and the Writes of its blocks
-record Gathered (run : Run) (told : List Report) (writes : List Request) (units between : Units) : Type 0 where
+record Gathered (run : CopyRun) (told : List CopyReport) (writes : List Request) (units between : Units) : Type 0 where
   pub whole : All (λ block. length block ≡ 512) (source_of units)
   pub all_but : WritesAllBut (source_of units) told writes run.from run.to
   pub same_source : source_of between ≡ source_of units
   pub same_target : target_of between ≡ target_of units
 
-gathered_by : (run : Run) (old new : WriteStage) (units between : Units) → old.writes ≡ []
+gathered_by : (run : CopyRun) (old new : WriteStage) (units between : Units) → old.writes ≡ []
     → AreWellFormedIfSound units → AllSound between → ChangesNoBlock units between
     → (adds : AddsAllBut run old new (IsSoundSource units between)) → Gathered run adds.tells.0.told new.writes units between
 gathered_by run old new units between none well_formed sound same adds =
@@ -338,8 +338,8 @@ gathered_by run old new units between none well_formed sound same adds =
       same_target = stays.same 1;
     }
 
-unwritten : (from to : ℕ) (told : List Report) (writes : List Request) (blocks : List (List ℕ)) (n : ℕ)
-    → WritesAllBut blocks told writes from to → (is_within from to n ≡ false) ⊎ (is_lost told n ≡ true)
+unwritten : (from to : ℕ) (told : List CopyReport) (writes : List Request) (blocks : List (List ℕ)) (n : ℕ)
+    → WritesAllBut blocks told writes from to → (is_within from to n ≡ false) ⊎ (is_told_lost told n ≡ true)
     → is_written writes n ≡ false
 unwritten from to told writes blocks n all (inl out) = all.written n ∙ rw out refl
 unwritten from to told writes blocks n all (inr is) = all.written n ∙ rw is (none (is_within from to n))
@@ -348,9 +348,9 @@ unwritten from to told writes blocks n all (inr is) = all.written n ∙ rw is (n
     none true = refl
     none false = refl
 
-pub run_changes_only : (run : Run) (old new : WriteStage) (units between after : Units) → old.writes ≡ []
+pub run_changes_only : (run : CopyRun) (old new : WriteStage) (units between after : Units) → old.writes ≡ []
     → ChangesNoBlock units between → AddsAllBut run old new (IsSoundSource units between)
-    → ChangesWritten new.writes between after → ChangesOnly run.from run.to units after
+    → ChangesWritten new.writes between after → ChangesWithin run.from run.to units after
 run_changes_only run old new units between after none same adds written = record {
   stays_sound = record {
     sound_before = λ u sound. same.stays_sound.sound_before u (written.stays_sound.sound_before u sound);
@@ -370,8 +370,8 @@ run_changes_only run old new units between after none same adds written = record
 }
 
 -- a run that failed while it read
-pub runs_unwritten : (run : Run) (old new : CopyStage) → ChangesNoBlock old.units new.units
-    → TellsLost run.skips_lost run.from run.to old.reports new.reports → RunsAsTold run run.from old new
+pub runs_unwritten : (run : CopyRun) (old new : CopyStage) → ChangesNoBlock old.units new.units
+    → ReportsLost run.skips_lost run.from run.to old.reports new.reports → RunsAsTold run run.from old new
 runs_unwritten run old new same tells = record {
   tells = tells;
   if_sound = λ well_formed sound. record {
@@ -381,7 +381,7 @@ runs_unwritten run old new same tells = record {
 }
 
 -- one whose Writes were executed
-pub runs_written : (run : Run) (old new : WriteStage) (units between after : Units) → old.writes ≡ []
+pub runs_written : (run : CopyRun) (old new : WriteStage) (units between after : Units) → old.writes ≡ []
     → ChangesNoBlock units between → AddsAllBut run old new (IsSoundSource units between)
     → ChangesWritten new.writes between after
     → RunsAsTold run run.from (record { units = units; reports = old.reports }) (record { units = after; reports = new.reports })
@@ -400,7 +400,7 @@ runs_written run old new units between after none same adds written = record {
 }
 
 -- and one whose Writes succeeded
-pub runs_all : (run : Run) (old new : WriteStage) (units between after : Units) → old.writes ≡ []
+pub runs_all : (run : CopyRun) (old new : WriteStage) (units between after : Units) → old.writes ≡ []
     → ChangesNoBlock units between → AddsAllBut run old new (IsSoundSource units between)
     → ChangesWritten new.writes between after → HoldsWritten new.writes between after
     → RunsAsTold run run.to (record { units = units; reports = old.reports }) (record { units = after; reports = new.reports })
@@ -423,19 +423,19 @@ runs_all run old new units between after none same adds written holds = record {
 
 -- the runs of a copy so far, up to the block `done`
 pub record CopiedSoFar (skips_lost : Bool) (from done : ℕ) (old now : CopyStage) : Type 0 where
-  pub tells : Tells skips_lost from done old.reports now.reports
+  pub tells : AddsReports skips_lost from done old.reports now.reports
   pub end : reached_end from tells.told ≡ done
-  pub changes : ChangesOnly from done old.units now.units
+  pub changes : ChangesWithin from done old.units now.units
   pub if_sound : AreWellFormedIfSound old.units → AllSound now.units
       → IsCopiedBut tells.told from done old.units now.units
 
-copied_both : (from mid to end : ℕ) (told1 told2 : List Report) (units between after : Units) → from ≤ mid → mid ≤ to
+copied_both : (from mid to end : ℕ) (told1 told2 : List CopyReport) (units between after : Units) → from ≤ mid → mid ≤ to
     → end ≤ to → AreReports from mid told1 → AreReports mid to told2 → HasOtherBlocks (is_within from mid) units between
     → HasOtherBlocks (is_within mid to) between after → IsCopiedBut told1 from mid units between
     → IsCopiedBut told2 mid end between after → IsCopiedBut (told2 ++ told1) from end units after
 copied_both from mid to end told1 told2 units between after first second last are1 are2 changed1 changed2 one two = record {
   copied = λ n low below unlost. at n low below unlost (cases_lt n mid);
-  lost_stay = λ n is. stays n is (cases_Bool (is_lost told2 n));
+  lost_stay = λ n is. stays n is (cases_Bool (is_told_lost told2 n));
 }
   where
     or_none : (x y : Bool) → (x || y) ≡ false → (x ≡ false) × (y ≡ false)
@@ -446,24 +446,24 @@ copied_both from mid to end told1 told2 units between after first second last ar
     or_last true y h none = absurd (cc none)
     or_last false y h none = h
 
-    at : (n : ℕ) → from ≤ n → n < end → is_lost (told2 ++ told1) n ≡ false → (n < mid) ⊎ (mid ≤ n)
+    at : (n : ℕ) → from ≤ n → n < end → is_told_lost (told2 ++ told1) n ≡ false → (n < mid) ⊎ (mid ≤ n)
         → IsBlockOf n (source_of units) (target_of after)
     at n low below unlost (inl before) =
-        let parts = or_none (is_lost told2 n) (is_lost told1 n) (sym (is_lost_both told2 told1 n) ∙ unlost) in
+        let parts = or_none (is_told_lost told2 n) (is_told_lost told1 n) (sym (is_lost_both told2 told1 n) ∙ unlost) in
         let here = one.copied n low before parts.1 in
         (here.0, changed2.others_stay n (is_outside mid to n (inl before)) ∙ here.1)
     at n low below unlost (inr past) =
-        let parts = or_none (is_lost told2 n) (is_lost told1 n) (sym (is_lost_both told2 told1 n) ∙ unlost) in
+        let parts = or_none (is_told_lost told2 n) (is_told_lost told1 n) (sym (is_lost_both told2 told1 n) ∙ unlost) in
         subst (λ (s : List (List ℕ)). IsBlockOf n s (target_of after)) changed1.source_stays
         (two.copied n past below parts.0)
 
-    stays : (n : ℕ) → is_lost (told2 ++ told1) n ≡ true → (is_lost told2 n ≡ true) ⊎ (is_lost told2 n ≡ false)
+    stays : (n : ℕ) → is_told_lost (told2 ++ told1) n ≡ true → (is_told_lost told2 n ≡ true) ⊎ (is_told_lost told2 n ≡ false)
         → slice_get (target_of after) n ≡ slice_get (target_of units) n
     stays n is (inl newer) =
         let place = lost_within mid to told2 n are2 newer in
         two.lost_stay n newer ∙ changed1.others_stay n (is_outside from mid n (inr place.0))
     stays n is (inr none) =
-        let older = or_last (is_lost told2 n) (is_lost told1 n) (sym (is_lost_both told2 told1 n) ∙ is) none in
+        let older = or_last (is_told_lost told2 n) (is_told_lost told1 n) (sym (is_lost_both told2 told1 n) ∙ is) none in
         let place = lost_within from mid told1 n are1 older in
         changed2.others_stay n (is_outside mid to n (inl place.1)) ∙ one.lost_stay n older
 
@@ -487,7 +487,7 @@ copied_none skips_lost from stage = record {
 
 -- a run that fails
 pub copied_in_part : (skips_lost : Bool) (from mid stop to : ℕ) (old now after : CopyStage) → from ≤ mid → mid ≤ stop
-    → stop ≤ to → CopiedSoFar skips_lost from mid old now → ChangesOnly mid stop now.units after.units
+    → stop ≤ to → CopiedSoFar skips_lost from mid old now → ChangesWithin mid stop now.units after.units
     → RunsAsTold (record { skips_lost = skips_lost; from = mid; to = stop }) mid now after
     → CopiesAsTold skips_lost from to old after
 copied_in_part skips_lost from mid stop to old now after first second last before changes run =
@@ -513,8 +513,8 @@ copied_in_part skips_lost from mid stop to old now after first second last befor
     }
 
 -- a run that succeeds, and was then reported
-pub copied_next : (skips_lost : Bool) (from mid to : ℕ) (old now after : CopyStage) (reports : List Report) → from ≤ mid
-    → mid < to → CopiedSoFar skips_lost from mid old now → ChangesOnly mid to now.units after.units
+pub copied_next : (skips_lost : Bool) (from mid to : ℕ) (old now after : CopyStage) (reports : List CopyReport) → from ≤ mid
+    → mid < to → CopiedSoFar skips_lost from mid old now → ChangesWithin mid to now.units after.units
     → RunsAsTold (record { skips_lost = skips_lost; from = mid; to = to }) to now
     (record { units = after.units; reports = reports })
     → after.reports ≡ reached to ∷ reports → CopiedSoFar skips_lost from to old after
@@ -524,7 +524,7 @@ copied_next skips_lost from mid to old now after reports first second before cha
     record {
       tells = record {
         told = reached to ∷ (run.tells.0.told ++ before.tells.told);
-        added = told ∙ ap (λ (l : List Report). reached to ∷ l) all.added;
+        added = told ∙ ap (λ (l : List CopyReport). reached to ∷ l) all.added;
         are_reports = (
           told_end_within from to all.told (omega (arith, first, second)) all.are_reports,
           (
@@ -556,10 +556,10 @@ copied_next skips_lost from mid to old now after reports first second before cha
 -- ---- the end of a range
 
 pub changes_only_end : (from to done : ℕ) (units after : Units) → to ≤ done → from ≤ done → done ≤ max from to
-    → ChangesOnly from done units after → ChangesOnly from to units after
+    → ChangesWithin from done units after → ChangesWithin from to units after
 changes_only_end from to done units after past begun within changes = elim (cases_lt from to) [
   | inl some ↦ let same : done ≡ to = omega (arith, past, within, some) in
-      subst (λ (n : ℕ). ChangesOnly from n units after) same changes
+      subst (λ (n : ℕ). ChangesWithin from n units after) same changes
   | inr none ↦ record {
     stays_sound = changes.stays_sound;
     if_sound = λ well_formed sound. let a = changes.if_sound well_formed sound in record {
@@ -583,31 +583,31 @@ copied_end skips_lost from to done old new past begun within copied = record {
 }
 
 -- the last end that was reported, after the last run
-pub told_to_end : (skips_lost : Bool) (from to done : ℕ) (reports after : List Report)
-    (tells : Tells skips_lost from done reports after) → to ≤ done → done ≤ max from to
-    → reached_end from tells.told ≡ done → TellsEnd from to reports after
+pub told_to_end : (skips_lost : Bool) (from to done : ℕ) (reports after : List CopyReport)
+    (tells : AddsReports skips_lost from done reports after) → to ≤ done → done ≤ max from to
+    → reached_end from tells.told ≡ done → ReportsLastBlock from to reports after
 told_to_end skips_lost from to done reports after tells past within end told added some =
     ap (reached_end from) (append_cancel_right told tells.told reports (sym added ∙ tells.added)) ∙ end
     ∙ omega (arith, past, within, some)
 
 -- ---- the reports of a comparison
 
-pub record ToldSoFar (from done : ℕ) (reports after : List Report) : Type 0 where
-  pub tells : Tells false from done reports after
+pub record ToldSoFar (from done : ℕ) (reports after : List CopyReport) : Type 0 where
+  pub tells : AddsReports false from done reports after
   pub end : reached_end from tells.told ≡ done
 
-pub told_none : (from : ℕ) (reports : List Report) → ToldSoFar from from reports reports
+pub told_none : (from : ℕ) (reports : List CopyReport) → ToldSoFar from from reports reports
 told_none from reports = record {
   tells = record { told = []; added = refl; are_reports = tt; none_lost = λ none n. refl };
   end = refl;
 }
 
-pub told_next : (from mid to : ℕ) (reports between after : List Report) → from ≤ mid → mid < to
+pub told_next : (from mid to : ℕ) (reports between after : List CopyReport) → from ≤ mid → mid < to
     → after ≡ reached to ∷ between → ToldSoFar from mid reports between → ToldSoFar from to reports after
 told_next from mid to reports between after first second added before = record {
   tells = record {
     told = reached to ∷ before.tells.told;
-    added = added ∙ ap (λ (l : List Report). reached to ∷ l) before.tells.added;
+    added = added ∙ ap (λ (l : List CopyReport). reached to ∷ l) before.tells.added;
     are_reports = (
       omega (arith, told_end_within from mid before.tells.told first before.tells.are_reports, second),
       (
@@ -620,8 +620,8 @@ told_next from mid to reports between after first second added before = record {
   end = refl;
 }
 
-pub told_in_part : (from mid to : ℕ) (reports after : List Report) → mid ≤ to → Tells false from mid reports after
-    → Tells false from to reports after
+pub told_in_part : (from mid to : ℕ) (reports after : List CopyReport) → mid ≤ to → AddsReports false from mid reports after
+    → AddsReports false from to reports after
 told_in_part from mid to reports after wider tells = record {
   told = tells.told;
   added = tells.added;

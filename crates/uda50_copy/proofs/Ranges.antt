@@ -11,11 +11,11 @@ use Rattle.uda50_copy.specs.declared.map.entry.BlockStatus.TheVariants.{NonTried
 use Rattle.uda50_copy.specs.declared.map.entry.MapEntry.{MapEntry}
 use Rattle.uda50_copy.specs.Copy.{target_of}
 use Rattle.uda50_copy.specs.Map.{is_within, statuses_at, changed, IsSet, IsFinishedBetween, IsUnfinishedBetween, IsFinishedAt}
-use Rattle.uda50_copy.specs.Report.{Report, reached, lost, begun, given, skipped}
-use Rattle.uda50_copy.specs.Reports.{AreReports, reached_end, told_end, is_lost, CopiesAsTold, IsBlockOf, TellsEnd}
+use Rattle.uda50_copy.specs.Report.{CopyReport, reached, lost, begun, given, skipped}
+use Rattle.uda50_copy.specs.Reports.{AreReports, reached_end, reports_end, is_told_lost, CopiesAsTold, IsBlockOf, ReportsLastBlock}
 use Rattle.uda50_copy.specs.Record.{RecordState, IsAsReported, run_start, is_lost_in_run, noted_at}
-use Rattle.uda50_copy.specs.Changes.{ChangesOnly}
-use Rattle.uda50_copy.specs.Range.{given_end, AreGiven, is_given, Transfer, IsCopiedIfSound, IsDone, was_finished, is_copied, was_lost, has_zeros, CopiesUnfinished, CopiesAllUnfinished, FinishedOnlyIf, NoneUntried}
+use Rattle.uda50_copy.specs.Changes.{ChangesWithin}
+use Rattle.uda50_copy.specs.Range.{given_end, AreGiven, is_given, CopyStates, IsCopiedIfSound, IsDone, was_finished, is_copied, was_lost, has_zeros, CopiesUnfinished, CopiesAllUnfinished, FinishedOnlyIf, NoneUntried}
 use Rattle.uda50_copy.proofs.Told.{told_end_within, reached_end_within, reached_end_from, is_lost_both, or_cases}
 use Rattle.uda50_copy.proofs.Pieces.{changes_no_block_none}
 use Rattle.uda50_copy.proofs.Gathered.{changes_only_none, changes_only_wider, within_wider}
@@ -33,11 +33,11 @@ not_equal b n less = elim (eqb_tells b n) [
 
 -- ---- a range that was given, and its reports
 
-lost_before : (from to : ℕ) (told : List Report) (n : ℕ) → AreReports from to told → is_lost told n ≡ true
-    → n < told_end from told
+lost_before : (from to : ℕ) (told : List CopyReport) (n : ℕ) → AreReports from to told → is_told_lost told n ≡ true
+    → n < reports_end from told
 lost_before from to [] n h is = absurd (cc)
 lost_before from to (reached stop ∷ told) n h is = omega (arith, lost_before from to told n h.1.1.1 is, h.0)
-lost_before from to (lost block ∷ told) n h is = elim (or_cases (nat_eq block n) (is_lost told n) is) [
+lost_before from to (lost block ∷ told) n h is = elim (or_cases (nat_eq block n) (is_told_lost told n) is) [
   | inl here ↦ elim (eqb_tells block n) [
     | inl both ↦ omega (arith, both.1)
     | inr both ↦ absurd (cc (both.0, here))
@@ -48,7 +48,7 @@ lost_before from to (begun entries ∷ told) n h is = absurd h
 lost_before from to (given start end ∷ told) n h is = absurd h
 lost_before from to (skipped start end ∷ told) n h is = absurd h
 
-start_told : (s e : ℕ) (told older : List Report) → AreReports s e told
+start_told : (s e : ℕ) (told older : List CopyReport) → AreReports s e told
     → run_start (told ++ given s e ∷ older) ≡ reached_end s told
 start_told s e [] older h = refl
 start_told s e (reached stop ∷ told) older h = refl
@@ -57,7 +57,7 @@ start_told s e (begun entries ∷ told) older h = absurd h
 start_told s e (given start end ∷ told) older h = absurd h
 start_told s e (skipped start end ∷ told) older h = absurd h
 
-in_run_low : (s e : ℕ) (told older : List Report) (n : ℕ) → AreReports s e told → n < reached_end s told
+in_run_low : (s e : ℕ) (told older : List CopyReport) (n : ℕ) → AreReports s e told → n < reached_end s told
     → is_lost_in_run (told ++ given s e ∷ older) n ≡ false
 in_run_low s e [] older n h low = refl
 in_run_low s e (reached stop ∷ told) older n h low = refl
@@ -69,10 +69,10 @@ in_run_low s e (begun entries ∷ told) older n h low = absurd h
 in_run_low s e (given start end ∷ told) older n h low = absurd h
 in_run_low s e (skipped start end ∷ told) older n h low = absurd h
 
-in_run_high : (s e : ℕ) (told older : List Report) (n : ℕ) → AreReports s e told → reached_end s told ≤ n
-    → is_lost_in_run (told ++ given s e ∷ older) n ≡ is_lost told n
+in_run_high : (s e : ℕ) (told older : List CopyReport) (n : ℕ) → AreReports s e told → reached_end s told ≤ n
+    → is_lost_in_run (told ++ given s e ∷ older) n ≡ is_told_lost told n
 in_run_high s e [] older n h high = refl
-in_run_high s e (reached stop ∷ told) older n h high = elim (cases_Bool (is_lost told n)) [
+in_run_high s e (reached stop ∷ told) older n h high = elim (cases_Bool (is_told_lost told n)) [
   | inl is ↦ absurd (omega (arith, lost_before s e told n h.1.1.1 is, h.0, high))
   | inr unlost ↦ sym unlost
 ]
@@ -83,12 +83,12 @@ in_run_high s e (given start end ∷ told) older n h high = absurd h
 in_run_high s e (skipped start end ∷ told) older n h high = absurd h
 
 -- the statuses that the reports of a range give a block
-abbrev given_status : ℕ → List Report → ℕ → List BlockStatus → List BlockStatus
+abbrev given_status : ℕ → List CopyReport → ℕ → List BlockStatus → List BlockStatus
 given_status s told n statuses =
-    if is_within s (reached_end s told) n then (if is_lost told n then changed Bad statuses else changed Finished statuses)
+    if is_within s (reached_end s told) n then (if is_told_lost told n then changed Bad statuses else changed Finished statuses)
     else statuses
 
-noted_reached : (s e stop : ℕ) (told older : List Report) (n : ℕ) → AreReports s e told → told_end s told ≤ stop
+noted_reached : (s e stop : ℕ) (told older : List CopyReport) (n : ℕ) → AreReports s e told → reports_end s told ≤ stop
     → reached_end s told < stop
     → noted_at (told ++ given s e ∷ older) n ≡ given_status s told n (noted_at older n)
     → noted_at (reached stop ∷ (told ++ given s e ∷ older)) n ≡ given_status s (reached stop ∷ told) n (noted_at older n)
@@ -111,7 +111,7 @@ noted_reached s e stop told older n h after later before = elim (cases_lt n (rea
       rw (in_run, start, same) (elim (cases_lt n stop) [
         | inl below ↦
             rw (is_inside (reached_end s told) stop n high below, is_inside s stop n (omega (arith, from, high)) below) refl
-        | inr past ↦ elim (cases_Bool (is_lost told n)) [
+        | inr past ↦ elim (cases_Bool (is_told_lost told n)) [
           | inl is ↦ absurd (omega (arith, lost_before s e told n h is, after, past))
           | inr unlost ↦
               rw (unlost, is_outside (reached_end s told) stop n (inr past), is_outside s stop n (inr past)) refl
@@ -119,7 +119,7 @@ noted_reached s e stop told older n h after later before = elim (cases_lt n (rea
       ])
 ]
 
-noted_told : (s e : ℕ) (told older : List Report) (n : ℕ) → AreReports s e told
+noted_told : (s e : ℕ) (told older : List CopyReport) (n : ℕ) → AreReports s e told
     → noted_at (told ++ given s e ∷ older) n ≡ given_status s told n (noted_at older n)
 noted_told s e [] older n h = rw (is_outside s s n (cases_lt n s)) refl
 noted_told s e (reached stop ∷ told) older n h =
@@ -133,7 +133,7 @@ noted_told s e (begun entries ∷ told) older n h = absurd h
 noted_told s e (given start end ∷ told) older n h = absurd h
 noted_told s e (skipped start end ∷ told) older n h = absurd h
 
-given_end_alone : (s e : ℕ) (told : List Report) → AreReports s e told → given_end s (told ++ given s e ∷ []) ≡ e
+given_end_alone : (s e : ℕ) (told : List CopyReport) → AreReports s e told → given_end s (told ++ given s e ∷ []) ≡ e
 given_end_alone s e [] h = refl
 given_end_alone s e (reached stop ∷ told) h = given_end_alone s e told h.1.1.1
 given_end_alone s e (lost block ∷ told) h = given_end_alone s e told h.1.1
@@ -141,7 +141,7 @@ given_end_alone s e (begun entries ∷ told) h = absurd h
 given_end_alone s e (given start end ∷ told) h = absurd h
 given_end_alone s e (skipped start end ∷ told) h = absurd h
 
-given_alone : (s e : ℕ) (told : List Report) → s < e → AreReports s e told → AreGiven s e (told ++ given s e ∷ [])
+given_alone : (s e : ℕ) (told : List CopyReport) → s < e → AreReports s e told → AreGiven s e (told ++ given s e ∷ [])
 given_alone s e [] some h = (omega arith, (some, (omega arith, tt)))
 given_alone s e (reached stop ∷ told) some h = given_alone s e told some h.1.1.1
 given_alone s e (lost block ∷ told) some h = (
@@ -152,7 +152,7 @@ given_alone s e (begun entries ∷ told) some h = absurd h
 given_alone s e (given start end ∷ told) some h = absurd h
 given_alone s e (skipped start end ∷ told) some h = absurd h
 
-is_given_alone : (s e : ℕ) (told : List Report) (n : ℕ) → AreReports s e told
+is_given_alone : (s e : ℕ) (told : List CopyReport) (n : ℕ) → AreReports s e told
     → is_given (told ++ given s e ∷ []) n ≡ is_within s e n
 is_given_alone s e [] n h = or_false (is_within s e n)
 is_given_alone s e (reached stop ∷ told) n h = is_given_alone s e told n h.1.1.1
@@ -161,11 +161,11 @@ is_given_alone s e (begun entries ∷ told) n h = absurd h
 is_given_alone s e (given start end ∷ told) n h = absurd h
 is_given_alone s e (skipped start end ∷ told) n h = absurd h
 
-is_lost_alone : (s e : ℕ) (told : List Report) (n : ℕ) → is_lost (told ++ given s e ∷ []) n ≡ is_lost told n
-is_lost_alone s e told n = is_lost_both told (given s e ∷ []) n ∙ or_false (is_lost told n)
+is_lost_alone : (s e : ℕ) (told : List CopyReport) (n : ℕ) → is_told_lost (told ++ given s e ∷ []) n ≡ is_told_lost told n
+is_lost_alone s e told n = is_lost_both told (given s e ∷ []) n ∙ or_false (is_told_lost told n)
 
 -- a copy of one range
-pub copies_given : (skips_lost : Bool) (s e : ℕ) (t : Transfer) → s < e
+pub copies_given : (skips_lost : Bool) (s e : ℕ) (t : CopyStates) → s < e
     → (copies : CopiesAsTold skips_lost s e (record { units = t.units; reports = given s e ∷ t.reports })
     (record { units = t.units_after; reports = t.reports_after }))
     → ((n : ℕ) → statuses_at t.map n ≡ noted_at t.reports n)
@@ -181,7 +181,7 @@ copies_given skips_lost s e t some copies before after unfinished = (
     begins = reached_end_from s e told are;
     ends = omega (arith, last);
     up_to = record {
-      done = λ n low high. by n low high (cases_Bool (is_lost told n));
+      done = λ n low high. by n low high (cases_Bool (is_told_lost told n));
       left = λ n out. record {
         same = now n ∙ rw out refl;
         unfinished = λ is.
@@ -193,7 +193,7 @@ copies_given skips_lost s e t some copies before after unfinished = (
   refl,
 )
   where
-    told : List Report
+    told : List CopyReport
     told = copies.tells.told
 
     are : AreReports s e told
@@ -203,10 +203,10 @@ copies_given skips_lost s e t some copies before after unfinished = (
     last = omega (arith, reached_end_within s e told are, told_end_within s e told (omega (arith, some)) are)
 
     now : (n : ℕ) → statuses_at t.map_after n ≡ given_status s told n (statuses_at t.map n)
-    now n = after n ∙ ap (λ (l : List Report). noted_at l n) copies.tells.added ∙ noted_told s e told t.reports n are
+    now n = after n ∙ ap (λ (l : List CopyReport). noted_at l n) copies.tells.added ∙ noted_told s e told t.reports n are
         ∙ ap (given_status s told n) (sym (before n))
 
-    by : (n : ℕ) → s ≤ n → n < reached_end s told → (is_lost told n ≡ true) ⊎ (is_lost told n ≡ false)
+    by : (n : ℕ) → s ≤ n → n < reached_end s told → (is_told_lost told n ≡ true) ⊎ (is_told_lost told n ≡ false)
         → IsDone t (told ++ given s e ∷ []) (λ n. ⊥) n
     by n low high (inl is) =
         was_lost (unfinished n low (omega (arith, high, last)))
@@ -220,7 +220,7 @@ copies_given skips_lost s e t some copies before after unfinished = (
 
 -- ---- one range after another
 
-given_end_from : (s e : ℕ) (told : List Report) → AreGiven s e told → s ≤ given_end s told
+given_end_from : (s e : ℕ) (told : List CopyReport) → AreGiven s e told → s ≤ given_end s told
 given_end_from s e [] h = omega arith
 given_end_from s e (given from to ∷ told) h = omega (arith, given_end_from s e told h.1.1.1, h.0, h.1.0)
 given_end_from s e (lost block ∷ told) h = given_end_from s e told h.1.1
@@ -228,7 +228,7 @@ given_end_from s e (reached stop ∷ told) h = given_end_from s e told h
 given_end_from s e (begun entries ∷ told) h = given_end_from s e told h
 given_end_from s e (skipped from to ∷ told) h = given_end_from s e told h
 
-given_end_within : (s e : ℕ) (told : List Report) → s ≤ e → AreGiven s e told → given_end s told ≤ e
+given_end_within : (s e : ℕ) (told : List CopyReport) → s ≤ e → AreGiven s e told → given_end s told ≤ e
 given_end_within s e [] some h = some
 given_end_within s e (given from to ∷ told) some h = h.1.1.0
 given_end_within s e (lost block ∷ told) some h = given_end_within s e told some h.1.1
@@ -236,7 +236,7 @@ given_end_within s e (reached stop ∷ told) some h = given_end_within s e told 
 given_end_within s e (begun entries ∷ told) some h = given_end_within s e told some h
 given_end_within s e (skipped from to ∷ told) some h = given_end_within s e told some h
 
-given_within : (s e : ℕ) (told : List Report) (n : ℕ) → AreGiven s e told → is_given told n ≡ true → (s ≤ n) × (n < e)
+given_within : (s e : ℕ) (told : List CopyReport) (n : ℕ) → AreGiven s e told → is_given told n ≡ true → (s ≤ n) × (n < e)
 given_within s e [] n h is = absurd (cc)
 given_within s e (given from to ∷ told) n h is = elim (or_cases (is_within from to n) (is_given told n) is) [
   | inl here ↦ (let place = inside from to n here in (
@@ -250,11 +250,11 @@ given_within s e (reached stop ∷ told) n h is = given_within s e told n h is
 given_within s e (begun entries ∷ told) n h is = given_within s e told n h is
 given_within s e (skipped from to ∷ told) n h is = given_within s e told n h is
 
-lost_given : (s e : ℕ) (told : List Report) (n : ℕ) → s ≤ e → AreGiven s e told → is_lost told n ≡ true
+lost_given : (s e : ℕ) (told : List CopyReport) (n : ℕ) → s ≤ e → AreGiven s e told → is_told_lost told n ≡ true
     → (s ≤ n) × (n < e)
 lost_given s e [] n some h is = absurd (cc)
 lost_given s e (given from to ∷ told) n some h is = lost_given s e told n some h.1.1.1 is
-lost_given s e (lost block ∷ told) n some h is = elim (or_cases (nat_eq block n) (is_lost told n) is) [
+lost_given s e (lost block ∷ told) n some h is = elim (or_cases (nat_eq block n) (is_told_lost told n) is) [
   | inl here ↦ elim (eqb_tells block n) [
     | inl both ↦ (
       omega (arith, both.1, h.0),
@@ -268,7 +268,7 @@ lost_given s e (reached stop ∷ told) n some h is = lost_given s e told n some 
 lost_given s e (begun entries ∷ told) n some h is = lost_given s e told n some h is
 lost_given s e (skipped from to ∷ told) n some h is = lost_given s e told n some h is
 
-given_wider : (s mid e : ℕ) (told : List Report) → mid ≤ e → AreGiven s mid told → AreGiven s e told
+given_wider : (s mid e : ℕ) (told : List CopyReport) → mid ≤ e → AreGiven s mid told → AreGiven s e told
 given_wider s mid e [] wider h = tt
 given_wider s mid e (given from to ∷ told) wider h =
     (h.0, (h.1.0, (omega (arith, h.1.1.0, wider), given_wider s mid e told wider h.1.1.1)))
@@ -277,7 +277,7 @@ given_wider s mid e (reached stop ∷ told) wider h = given_wider s mid e told w
 given_wider s mid e (begun entries ∷ told) wider h = given_wider s mid e told wider h
 given_wider s mid e (skipped from to ∷ told) wider h = given_wider s mid e told wider h
 
-given_end_both : (from mid : ℕ) (newer older : List Report) → given_end from older ≤ mid
+given_end_both : (from mid : ℕ) (newer older : List CopyReport) → given_end from older ≤ mid
     → given_end from (newer ++ older) ≤ given_end mid newer
 given_end_both from mid [] older h = h
 given_end_both from mid (given a b ∷ newer) older h = omega arith
@@ -286,7 +286,7 @@ given_end_both from mid (reached stop ∷ newer) older h = given_end_both from m
 given_end_both from mid (begun entries ∷ newer) older h = given_end_both from mid newer older h
 given_end_both from mid (skipped a b ∷ newer) older h = given_end_both from mid newer older h
 
-given_end_past : (from mid block : ℕ) (newer older : List Report) → mid ≤ block → block < given_end mid newer
+given_end_past : (from mid block : ℕ) (newer older : List CopyReport) → mid ≤ block → block < given_end mid newer
     → block < given_end from (newer ++ older)
 given_end_past from mid block [] older late h = absurd (omega (arith, late, h))
 given_end_past from mid block (given a b ∷ newer) older late h = h
@@ -295,7 +295,7 @@ given_end_past from mid block (reached stop ∷ newer) older late h = given_end_
 given_end_past from mid block (begun entries ∷ newer) older late h = given_end_past from mid block newer older late h
 given_end_past from mid block (skipped a b ∷ newer) older late h = given_end_past from mid block newer older late h
 
-given_both : (from mid to : ℕ) (newer older : List Report) → from ≤ mid → mid ≤ to → AreGiven from mid older
+given_both : (from mid to : ℕ) (newer older : List CopyReport) → from ≤ mid → mid ≤ to → AreGiven from mid older
     → AreGiven mid to newer → AreGiven from to (newer ++ older)
 given_both from mid to [] older first second before h = given_wider from mid to older second before
 given_both from mid to (given a b ∷ newer) older first second before h = (
@@ -317,7 +317,7 @@ or_assoc : (x y z : Bool) → (x || (y || z)) ≡ ((x || y) || z)
 or_assoc true y z = refl
 or_assoc false y z = refl
 
-is_given_both : (newer older : List Report) (n : ℕ) → is_given (newer ++ older) n ≡ (is_given newer n || is_given older n)
+is_given_both : (newer older : List CopyReport) (n : ℕ) → is_given (newer ++ older) n ≡ (is_given newer n || is_given older n)
 is_given_both [] older n = refl
 is_given_both (given a b ∷ newer) older n =
     ap (λ (x : Bool). is_within a b n || x) (is_given_both newer older n)
@@ -332,9 +332,9 @@ false_unless true not = absurd (not refl)
 false_unless false not = refl
 
 -- what came of a block, seen from a longer copy
-done_moved : (t u : Transfer) (told longer : List Report) (Zeros Z : ℕ → Type 0) (n : ℕ)
+done_moved : (t u : CopyStates) (told longer : List CopyReport) (Zeros Z : ℕ → Type 0) (n : ℕ)
     → statuses_at u.map n ≡ statuses_at t.map n → statuses_at u.map_after n ≡ statuses_at t.map_after n
-    → is_given longer n ≡ is_given told n → is_lost longer n ≡ is_lost told n
+    → is_given longer n ≡ is_given told n → is_told_lost longer n ≡ is_told_lost told n
     → (IsCopiedIfSound t n → IsCopiedIfSound u n) → (Zeros n → Z n) → IsDone t told Zeros n → IsDone u longer Z n
 done_moved t u told longer Zeros Z n map after gave lose copied zeros (was_finished finished away same) =
     was_finished (subst (All (λ status. status ≡ Finished)) (sym map) finished) (gave ∙ away) (after ∙ same ∙ sym map)
@@ -356,11 +356,11 @@ pub record Parts : Type 0 where
   pub map : List MapEntry
   pub map_between : List MapEntry
   pub map_after : List MapEntry
-  pub reports : List Report
-  pub reports_between : List Report
-  pub reports_after : List Report
+  pub reports : List CopyReport
+  pub reports_between : List CopyReport
+  pub reports_after : List CopyReport
 
-abbrev pub first_of : Parts → Transfer
+abbrev pub first_of : Parts → CopyStates
 first_of p = record {
   units = p.units;
   units_after = p.between;
@@ -370,7 +370,7 @@ first_of p = record {
   reports_after = p.reports_between;
 }
 
-abbrev pub second_of : Parts → Transfer
+abbrev pub second_of : Parts → CopyStates
 second_of p = record {
   units = p.between;
   units_after = p.after;
@@ -380,7 +380,7 @@ second_of p = record {
   reports_after = p.reports_after;
 }
 
-abbrev pub whole_of : Parts → Transfer
+abbrev pub whole_of : Parts → CopyStates
 whole_of p = record {
   units = p.units;
   units_after = p.after;
@@ -391,14 +391,14 @@ whole_of p = record {
 }
 
 pub copies_then : (start mid to : ℕ) (p : Parts) (One Two Zeros : ℕ → Type 0) → start ≤ mid → mid ≤ to
-    → ChangesOnly start mid p.units p.between → ChangesOnly mid to p.between p.after
+    → ChangesWithin start mid p.units p.between → ChangesWithin mid to p.between p.after
     → CopiesAllUnfinished start mid (first_of p) One → (two : CopiesUnfinished mid to (second_of p) Two)
     → ((n : ℕ) → One n → Zeros n) → ((n : ℕ) → Two n → Zeros n)
     → (made : CopiesUnfinished start to (whole_of p) Zeros) × (made.end ≡ two.end)
 copies_then start mid to p One Two Zeros first second changes1 changes2 one two zeros1 zeros2 = (
   record {
     told = told;
-    added = two.added ∙ ap (λ (l : List Report). two.told ++ l) one.0.added ∙ sym (append_assoc two.told one.0.told p.reports);
+    added = two.added ∙ ap (λ (l : List CopyReport). two.told ++ l) one.0.added ∙ sym (append_assoc two.told one.0.told p.reports);
     are_given = given_both start mid to two.told one.0.told first second one.0.are_given two.are_given;
     end = two.end;
     begins = omega (arith, first, two.begins);
@@ -415,7 +415,7 @@ copies_then start mid to p One Two Zeros first second changes1 changes2 one two 
   refl,
 )
   where
-    told : List Report
+    told : List CopyReport
     told = two.told ++ one.0.told
 
     end1 : one.0.end ≡ mid
@@ -439,17 +439,17 @@ copies_then start mid to p One Two Zeros first second changes1 changes2 one two 
     before_second n low =
         false_unless (is_given two.told n) (λ is. omega (arith, low, (given_within mid to two.told n two.are_given is).0))
 
-    lost_second : (n : ℕ) → n < mid → is_lost two.told n ≡ false
+    lost_second : (n : ℕ) → n < mid → is_told_lost two.told n ≡ false
     lost_second n low =
-        false_unless (is_lost two.told n) (λ is. omega (arith, low, (lost_given mid to two.told n second two.are_given is).0))
+        false_unless (is_told_lost two.told n) (λ is. omega (arith, low, (lost_given mid to two.told n second two.are_given is).0))
 
     after_first : (n : ℕ) → mid ≤ n → is_given one.0.told n ≡ false
     after_first n high =
         false_unless (is_given one.0.told n) (λ is. omega (arith, high, (given_within start mid one.0.told n one.0.are_given is).1))
 
-    lost_first : (n : ℕ) → mid ≤ n → is_lost one.0.told n ≡ false
+    lost_first : (n : ℕ) → mid ≤ n → is_told_lost one.0.told n ≡ false
     lost_first n high =
-        false_unless (is_lost one.0.told n) (λ is. omega (arith, high, (lost_given start mid one.0.told n first one.0.are_given is).1))
+        false_unless (is_told_lost one.0.told n) (λ is. omega (arith, high, (lost_given start mid one.0.told n first one.0.are_given is).1))
 
     open_at : (n : ℕ) → is_within start two.end n ≡ false
         → (is_given two.told n ≡ true) ⊎ (is_given one.0.told n ≡ true)
@@ -464,7 +464,7 @@ copies_then start mid to p One Two Zeros first second changes1 changes2 one two 
         let left = two.up_to.left n (is_outside mid two.end n (inl before)) in
         done_moved (first_of p) (whole_of p) one.0.told told One Zeros n refl left.same
         (is_given_both two.told one.0.told n ∙ ap (λ (b : Bool). b || is_given one.0.told n) (before_second n before))
-        (is_lost_both two.told one.0.told n ∙ ap (λ (b : Bool). b || is_lost one.0.told n) (lost_second n before))
+        (is_lost_both two.told one.0.told n ∙ ap (λ (b : Bool). b || is_told_lost one.0.told n) (lost_second n before))
         (λ there well_formed sound.
         let between : AllSound p.between = λ u. changes2.stays_sound.sound_before u (sound u) in
         let here = there well_formed between in (
@@ -478,8 +478,8 @@ copies_then start mid to p One Two Zeros first second changes1 changes2 one two 
         done_moved (second_of p) (whole_of p) two.told told Two Zeros n (sym left.same) refl
         (is_given_both two.told one.0.told n ∙ ap (λ (b : Bool). is_given two.told n || b) (after_first n past)
         ∙ or_false (is_given two.told n))
-        (is_lost_both two.told one.0.told n ∙ ap (λ (b : Bool). is_lost two.told n || b) (lost_first n past)
-        ∙ or_false (is_lost two.told n))
+        (is_lost_both two.told one.0.told n ∙ ap (λ (b : Bool). is_told_lost two.told n || b) (lost_first n past)
+        ∙ or_false (is_told_lost two.told n))
         (λ there well_formed sound.
         let between : AllSound p.between = λ u. changes2.stays_sound.sound_before u (sound u) in
         subst (λ (s : List (List ℕ)). IsBlockOf n s (target_of p.after))
@@ -490,7 +490,7 @@ copies_then start mid to p One Two Zeros first second changes1 changes2 one two 
 -- ---- blocks that are not given
 
 -- the same units, map and reports
-abbrev pub still : Units → List MapEntry → List Report → Transfer
+abbrev pub still : Units → List MapEntry → List CopyReport → CopyStates
 still units map reports = record {
   units = units;
   units_after = units;
@@ -500,7 +500,7 @@ still units map reports = record {
   reports_after = reports;
 }
 
-pub copies_finished : (at start : ℕ) (units : Units) (map : List MapEntry) (reports : List Report) (Zeros : ℕ → Type 0)
+pub copies_finished : (at start : ℕ) (units : Units) (map : List MapEntry) (reports : List CopyReport) (Zeros : ℕ → Type 0)
     → at ≤ start → IsFinishedBetween at start map → CopiesAllUnfinished at start (still units map reports) Zeros
 copies_finished at start units map reports Zeros ordered finished = (
   record {
@@ -518,7 +518,7 @@ copies_finished at start units map reports Zeros ordered finished = (
   omega (arith, ordered),
 )
 
-pub copies_skipped : (from start : ℕ) (units : Units) (map after : List MapEntry) (reports : List Report)
+pub copies_skipped : (from start : ℕ) (units : Units) (map after : List MapEntry) (reports : List CopyReport)
     (Zeros : ℕ → Type 0) → from < start → IsUnfinishedBetween from start map → IsSet from start Finished map after
     → ((n : ℕ) → from ≤ n → n < start → Zeros n)
     → CopiesAllUnfinished from start (record {
@@ -546,7 +546,7 @@ copies_skipped from start units map after reports Zeros some unfinished set zero
   omega (arith, some),
 )
 
-pub copies_wider : (start mid to : ℕ) (t : Transfer) (Zeros : ℕ → Type 0) → start ≤ mid → mid ≤ to
+pub copies_wider : (start mid to : ℕ) (t : CopyStates) (Zeros : ℕ → Type 0) → start ≤ mid → mid ≤ to
     → CopiesUnfinished start mid t Zeros → CopiesUnfinished start to t Zeros
 copies_wider start mid to t Zeros first second copies = record {
   told = copies.told;
@@ -567,7 +567,7 @@ unfinished_rest from start end map after ordered unfinished set n low high =
 
 -- ---- the steps of a copy of a range
 
-abbrev pub made_of : Units → Units → RecordState → RecordState → Transfer
+abbrev pub made_of : Units → Units → RecordState → RecordState → CopyStates
 made_of units after old new = record {
   units = units;
   units_after = after;
@@ -588,7 +588,7 @@ status_before : (s e : ℕ) (old started now : RecordState) → Noted s e old st
     → statuses_at old.map n ≡ noted_at old.reports n
 status_before s e old started now noted n =
     ap (λ (m : List MapEntry). statuses_at m n) (sym noted.map) ∙ noted.was.map n
-    ∙ ap (λ (l : List Report). noted_at l n) noted.told
+    ∙ ap (λ (l : List CopyReport). noted_at l n) noted.told
 
 pub copies_noted : (skips_lost : Bool) (s e : ℕ) (units after : Units) (old started now : RecordState) → s < e
     → started.map ≡ old.map → started.reports ≡ given s e ∷ old.reports → IsAsReported started → IsAsReported now
@@ -596,7 +596,7 @@ pub copies_noted : (skips_lost : Bool) (s e : ℕ) (units after : Units) (old st
     (record { units = after; reports = now.reports })
     → IsUnfinishedBetween s e old.map → CopiesUnfinished s e (made_of units after old now) (λ n. ⊥)
 copies_noted skips_lost s e units after old started now some map told was is copies unfinished =
-    let moved = subst (λ (l : List Report). CopiesAsTold skips_lost s e (record { units = units; reports = l })
+    let moved = subst (λ (l : List CopyReport). CopiesAsTold skips_lost s e (record { units = units; reports = l })
     (record { units = after; reports = now.reports })) told copies in
     (copies_given skips_lost s e (made_of units after old now) some moved
     (status_before s e old started now (record { map = map; told = told; was = was; is = is })) is.map unfinished).0
@@ -605,12 +605,12 @@ pub copies_noted_all : (skips_lost : Bool) (s e : ℕ) (units after : Units) (ol
     → started.map ≡ old.map → started.reports ≡ given s e ∷ old.reports → IsAsReported started → IsAsReported now
     → CopiesAsTold skips_lost s e (record { units = units; reports = started.reports })
     (record { units = after; reports = now.reports })
-    → TellsEnd s e started.reports now.reports
+    → ReportsLastBlock s e started.reports now.reports
     → IsUnfinishedBetween s e old.map → CopiesAllUnfinished s e (made_of units after old now) (λ n. ⊥)
 copies_noted_all skips_lost s e units after old started now some map told was is copies ended unfinished =
-    let moved = subst (λ (l : List Report). CopiesAsTold skips_lost s e (record { units = units; reports = l })
+    let moved = subst (λ (l : List CopyReport). CopiesAsTold skips_lost s e (record { units = units; reports = l })
     (record { units = after; reports = now.reports })) told copies in
-    let end = subst (λ (l : List Report). TellsEnd s e l now.reports) told ended in
+    let end = subst (λ (l : List CopyReport). ReportsLastBlock s e l now.reports) told ended in
     let made = copies_given skips_lost s e (made_of units after old now) some moved
     (status_before s e old started now (record { map = map; told = told; was = was; is = is })) is.map unfinished in
     (made.0, made.1 ∙ end moved.tells.told moved.tells.added some ∙ omega (arith, some))
@@ -621,7 +621,7 @@ pub skip_part : (from start : ℕ) (units : Units) (old new : RecordState) (Zero
     → ((n : ℕ) → from ≤ n → n < start → Zeros n) → CopiesAllUnfinished from start (made_of units units old new) Zeros
 skip_part from start units old new Zeros ordered unfinished none set told zeros = elim (cases_lt from start) [
   | inl some ↦
-      subst (λ (l : List Report). CopiesAllUnfinished from start (record {
+      subst (λ (l : List CopyReport). CopiesAllUnfinished from start (record {
         units = units;
         units_after = units;
         map = old.map;
@@ -652,7 +652,7 @@ skip_in_part from start to units old new Zeros ordered more unfinished none (inr
 
 -- blocks are skipped, and then others are given
 pub skipped_then : (from start to : ℕ) (units after : Units) (old mid new : RecordState) (Zeros : ℕ → Type 0)
-    → from ≤ start → start ≤ to → ChangesOnly start to units after
+    → from ≤ start → start ≤ to → ChangesWithin start to units after
     → CopiesAllUnfinished from start (made_of units units old mid) Zeros
     → (two : CopiesUnfinished start to (made_of units after mid new) (λ n. ⊥))
     → (made : CopiesUnfinished from to (made_of units after old new) Zeros) × (made.end ≡ two.end)
@@ -672,7 +672,7 @@ skipped_then from start to units after old mid new Zeros first second changes on
 
 -- blocks are passed that are finished, and then a step is made
 pub step_then : (start at from to : ℕ) (u0 u1 u2 : Units) (r0 r1 r2 : RecordState) (One Zeros : ℕ → Type 0)
-    → start ≤ at → at ≤ from → from ≤ to → ChangesOnly start at u0 u1 → ChangesOnly from to u1 u2
+    → start ≤ at → at ≤ from → from ≤ to → ChangesWithin start at u0 u1 → ChangesWithin from to u1 u2
     → CopiesAllUnfinished start at (made_of u0 u1 r0 r1) One → IsFinishedBetween at from r1.map
     → (two : CopiesUnfinished from to (made_of u1 u2 r1 r2) Zeros) → ((n : ℕ) → One n → Zeros n)
     → (made : CopiesUnfinished start to (made_of u0 u2 r0 r2) Zeros) × (made.end ≡ two.end)
@@ -706,7 +706,7 @@ step_then start at from to u0 u1 u2 r0 r1 r2 One Zeros first second third change
 
 -- the last blocks are finished
 pub step_last : (start at to : ℕ) (u0 u1 : Units) (r0 r1 : RecordState) (Zeros : ℕ → Type 0) → start ≤ at → at ≤ to
-    → ChangesOnly start at u0 u1 → CopiesAllUnfinished start at (made_of u0 u1 r0 r1) Zeros
+    → ChangesWithin start at u0 u1 → CopiesAllUnfinished start at (made_of u0 u1 r0 r1) Zeros
     → IsFinishedBetween at to r1.map → CopiesAllUnfinished start to (made_of u0 u1 r0 r1) Zeros
 step_last start at to u0 u1 r0 r1 Zeros first second changes one finished =
     let passed = copies_finished at to u1 r1.map r1.reports Zeros second finished in
@@ -743,8 +743,8 @@ copies_nothing start to units r Zeros none = (
   omega (arith, none),
 )
 
-pub changes_only_of : (from s e to : ℕ) (units after : Units) → from ≤ s → e ≤ to → ChangesOnly s e units after
-    → ChangesOnly from to units after
+pub changes_only_of : (from s e to : ℕ) (units after : Units) → from ≤ s → e ≤ to → ChangesWithin s e units after
+    → ChangesWithin from to units after
 changes_only_of from s e to units after first last changes = record {
   stays_sound = changes.stays_sound;
   if_sound = λ well_formed sound. let a = changes.if_sound well_formed sound in record {
@@ -755,7 +755,7 @@ changes_only_of from s e to units after first last changes = record {
 }
 
 -- the last block by another name
-pub copies_all_to : (from start end : ℕ) (t : Transfer) (Zeros : ℕ → Type 0) → start ≡ end
+pub copies_all_to : (from start end : ℕ) (t : CopyStates) (Zeros : ℕ → Type 0) → start ≡ end
     → CopiesAllUnfinished from start t Zeros → CopiesAllUnfinished from end t Zeros
 copies_all_to from start end t Zeros same copies =
     subst (λ (n : ℕ). CopiesAllUnfinished from n t Zeros) same copies
@@ -765,7 +765,7 @@ copies_all_to from start end t Zeros same copies =
 bad_is_other : Bad ≢ Finished
 bad_is_other is = absurd (cc)
 
-finished_by : (t : Transfer) (told : List Report) (Zeros : ℕ → Type 0) (n : ℕ) → IsDone t told Zeros n
+finished_by : (t : CopyStates) (told : List CopyReport) (Zeros : ℕ → Type 0) (n : ℕ) → IsDone t told Zeros n
     → IsFinishedAt n t.map_after → IsFinishedAt n t.map ⊎ (IsCopiedIfSound t n ⊎ Zeros n)
 finished_by t told Zeros n (was_finished finished away same) is =
     inl (subst (λ (l : List BlockStatus). Contains l Finished) same is)
@@ -777,7 +777,7 @@ finished_by t told Zeros n (was_lost unfinished gave gone now) is =
     (λ k d below. bad_is_other))) is refl)
 finished_by t told Zeros n (has_zeros unfinished away there now) is = inr (inr there)
 
-pub finished_only_of : (start to : ℕ) (t : Transfer) (Zeros : ℕ → Type 0) → CopiesUnfinished start to t Zeros
+pub finished_only_of : (start to : ℕ) (t : CopyStates) (Zeros : ℕ → Type 0) → CopiesUnfinished start to t Zeros
     → FinishedOnlyIf t Zeros
 finished_only_of start to t Zeros copies n is = elim (cases_Bool (is_within start copies.end n)) [
   | inl within ↦ (let place = inside start copies.end n within in
@@ -785,7 +785,7 @@ finished_only_of start to t Zeros copies n is = elim (cases_Bool (is_within star
   | inr out ↦ inl (subst (λ (l : List BlockStatus). Contains l Finished) (copies.up_to.left n out).same is)
 ]
 
-tried_by : (t : Transfer) (told : List Report) (Zeros : ℕ → Type 0) (n : ℕ) → IsDone t told Zeros n
+tried_by : (t : CopyStates) (told : List CopyReport) (Zeros : ℕ → Type 0) (n : ℕ) → IsDone t told Zeros n
     → All (λ (s : BlockStatus). s ≢ NonTried) (statuses_at t.map_after n)
 tried_by t told Zeros n (was_finished finished away same) =
     subst (All (λ (s : BlockStatus). s ≢ NonTried)) (sym same) (λ k d below is. other (finished k d below) is)
@@ -805,7 +805,7 @@ tried_by t told Zeros n (has_zeros unfinished away there now) =
     (All-map (λ (s : BlockStatus). s ≢ NonTried) (λ (s : BlockStatus). Finished) (statuses_at t.map n)
     (λ k d below is. absurd (cc is)))
 
-pub none_untried_of : (start to : ℕ) (t : Transfer) (Zeros : ℕ → Type 0) → CopiesAllUnfinished start to t Zeros
+pub none_untried_of : (start to : ℕ) (t : CopyStates) (Zeros : ℕ → Type 0) → CopiesAllUnfinished start to t Zeros
     → NoneUntried start to t.map_after
 none_untried_of start to t Zeros copies n low high =
     tried_by t copies.0.told Zeros n (copies.0.up_to.done n low (omega (arith, high, copies.1)))

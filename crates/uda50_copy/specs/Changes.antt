@@ -8,8 +8,8 @@ use Rattle.uda_disk.specs.Laws.{size_at}
 use Rattle.uda_disk.specs.Units.{Units, disks_of, AllSound, AreWellFormedIfSound}
 use Rattle.uda50_copy.specs.Map.{is_within}
 use Rattle.uda50_copy.specs.Copy.{source_of, target_of, write_of, StaysSound, ReturnsBlocks}
-use Rattle.uda50_copy.specs.Report.{Report}
-use Rattle.uda50_copy.specs.Reports.{TellsLost, is_lost, IsBlockOf, CopyStage, IsCopiedBut}
+use Rattle.uda50_copy.specs.Report.{CopyReport}
+use Rattle.uda50_copy.specs.Reports.{ReportsLost, is_told_lost, IsBlockOf, CopyStage, IsCopiedBut}
 
 -- ---- what changes
 
@@ -21,7 +21,7 @@ pub record HasOtherBlocks (changes : ℕ → Bool) (units units_after : Units) :
   pub sizes_stay : (u : ℕ) → size_at (disks_of units_after) u ≡ size_at (disks_of units) u
 
 -- if units are well formed, and each store is sound afterwards, only these blocks of unit 1 have changed
-pub record ChangesOnly (from to : ℕ) (units units_after : Units) : Type 0 where
+pub record ChangesWithin (from to : ℕ) (units units_after : Units) : Type 0 where
   pub stays_sound : StaysSound units units_after
   pub if_sound : AreWellFormedIfSound units → AllSound units_after
       → HasOtherBlocks (is_within from to) units units_after
@@ -62,21 +62,21 @@ HoldsWritten requests units units_after =
 -- ---- a run of a copy
 
 -- its blocks, and whether those that can't be read are skipped
-pub record Run : Type 0 where
+pub record CopyRun : Type 0 where
   pub skips_lost : Bool
   pub from : ℕ
   pub to : ℕ
 
 -- Writes of all blocks of a run, but for those reported lost
-pub record WritesAllBut (blocks : List (List ℕ)) (told : List Report) (writes : List Request) (from to : ℕ)
+pub record WritesAllBut (blocks : List (List ℕ)) (told : List CopyReport) (writes : List Request) (from to : ℕ)
     : Type 0 where
   pub pieces : All (IsPieceOf blocks) writes
-  pub written : (n : ℕ) → is_written writes n ≡ (is_within from to n && not (is_lost told n))
+  pub written : (n : ℕ) → is_written writes n ≡ (is_within from to n && not (is_told_lost told n))
 
 -- the Writes that were made, and all reports so far
 pub record WriteStage : Type 0 where
   pub writes : List Request
-  pub reports : List Report
+  pub reports : List CopyReport
 
 -- whole blocks, some of which this answer returns
 abbrev pub ReturnsWhole : Answer → ℕ → ℕ → List (List ℕ) → Type 0
@@ -89,15 +89,15 @@ IsSoundSource units units_after blocks =
     AreWellFormedIfSound units × (AllSound units_after × (blocks ≡ source_of units))
 
 -- Writes were added, and blocks were reported lost: together all blocks of a run, of each source that is as `Is` says
-pub record AddsAllBut (run : Run) (old new : WriteStage) (Is : List (List ℕ) → Type 0) : Type 0 where
-  pub tells : TellsLost run.skips_lost run.from run.to old.reports new.reports
+pub record AddsAllBut (run : CopyRun) (old new : WriteStage) (Is : List (List ℕ) → Type 0) : Type 0 where
+  pub tells : ReportsLost run.skips_lost run.from run.to old.reports new.reports
   pub added : List Request
   pub adds : new.writes ≡ old.writes ++ added
   pub writes : (blocks : List (List ℕ)) → Is blocks → WritesAllBut blocks tells.0.told added run.from run.to
 
 -- a run reported its lost blocks: if units are well formed, and each store is sound afterwards, its blocks up to `end`
 -- are copied but for those
-pub record RunsAsTold (run : Run) (end : ℕ) (old new : CopyStage) : Type 0 where
-  pub tells : TellsLost run.skips_lost run.from run.to old.reports new.reports
+pub record RunsAsTold (run : CopyRun) (end : ℕ) (old new : CopyStage) : Type 0 where
+  pub tells : ReportsLost run.skips_lost run.from run.to old.reports new.reports
   pub if_sound : AreWellFormedIfSound old.units → AllSound new.units
       → IsCopiedBut tells.0.told run.from end old.units new.units

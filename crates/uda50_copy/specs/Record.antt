@@ -5,10 +5,10 @@ use Rattle.uda50_copy.specs.declared.map.entry.BlockStatus.{BlockStatus}
 use Rattle.uda50_copy.specs.declared.map.entry.BlockStatus.TheVariants.{Bad, Finished}
 use Rattle.uda50_copy.specs.declared.map.entry.MapEntry.{MapEntry}
 use Rattle.uda50_copy.specs.Map.{is_within, statuses_at, changed}
-use Rattle.uda50_copy.specs.Report.{Report, reached, lost, begun, given, skipped}
+use Rattle.uda50_copy.specs.Report.{CopyReport, reached, lost, begun, given, skipped}
 
 -- the first block of the run that is copied: the last end, or the start of the range that was given since
-abbrev pub run_start : List Report → ℕ
+abbrev pub run_start : List CopyReport → ℕ
 run_start [] = 0
 run_start (reached end ∷ told) = end
 run_start (lost block ∷ told) = run_start told
@@ -17,12 +17,12 @@ run_start (given start end ∷ told) = start
 run_start (skipped start end ∷ told) = end
 
 -- whether a block was reported lost in that run
-abbrev pub is_lost_in_run : List Report → ℕ → Bool
+abbrev pub is_lost_in_run : List CopyReport → ℕ → Bool
 is_lost_in_run (lost block ∷ told) n = nat_eq block n || is_lost_in_run told n
 is_lost_in_run _ n = false
 
 -- the statuses that a block has after these reports
-abbrev pub noted_at : List Report → ℕ → List BlockStatus
+abbrev pub noted_at : List CopyReport → ℕ → List BlockStatus
 noted_at [] n = []
 noted_at (reached end ∷ told) n =
     if is_lost_in_run told n then changed Bad (noted_at told n)
@@ -43,7 +43,7 @@ pub record RecordState : Type 0 where
   pub map : List MapEntry
   pub from : ℕ
   pub lost : List ℕ
-  pub reports : List Report
+  pub reports : List CopyReport
   pub broken : Bool
 
 -- the map is what the reports say

@@ -8,12 +8,12 @@ use Rattle.uda50_copy.specs.declared.map.entry.MapEntry.{MapEntry}
 -- A copy reports that all blocks before this one are copied, lost or compared, or that this block of the source can't
 -- be read. A record of a copy also notes the map that it begins with, the ranges that it gives to a copy, and those that
 -- it skips since they are zeros in both images.
-pub data Report : Type 0 where
-  reached : ℕ → Report
-  lost : ℕ → Report
-  begun : List MapEntry → Report
-  given : ℕ → ℕ → Report
-  skipped : ℕ → ℕ → Report
+pub data CopyReport : Type 0 where
+  reached : ℕ → CopyReport
+  lost : ℕ → CopyReport
+  begun : List MapEntry → CopyReport
+  given : ℕ → ℕ → CopyReport
+  skipped : ℕ → ℕ → CopyReport
 
 -- ---- how the logic stores reports
 
@@ -30,38 +30,38 @@ of_status_number NonTried = refl
 of_status_number Bad = refl
 of_status_number Finished = refl
 
-abbrev pub status_code : Coded BlockStatus
-status_code = code_by ℕ coded_ℕ status_number status_of_number of_status_number
+abbrev pub coded_status : Coded BlockStatus
+coded_status = code_by ℕ coded_ℕ status_number status_of_number of_status_number
 
 abbrev pub entry_code : Coded MapEntry
-entry_code = code_by (ℕ × (ℕ × BlockStatus)) (coded× coded_ℕ (coded× coded_ℕ status_code))
+entry_code = code_by (ℕ × (ℕ × BlockStatus)) (coded× coded_ℕ (coded× coded_ℕ coded_status))
     (λ e. (e.start, (e.end, e.status))) (λ p. record { start = p.0; end = p.1.0; status = p.1.1 }) (λ _. refl)
 
 -- a number for the kind, the blocks, and the entries of a map
-abbrev Parts : Type 0
-Parts = ℕ × (ℕ × (ℕ × List MapEntry))
+abbrev ReportParts : Type 0
+ReportParts = ℕ × (ℕ × (ℕ × List MapEntry))
 
-abbrev to_parts : Report → Parts
-to_parts (reached end) = (0, (end, (0, [])))
-to_parts (lost block) = (1, (block, (0, [])))
-to_parts (begun entries) = (2, (0, (0, entries)))
-to_parts (given start end) = (3, (start, (end, [])))
-to_parts (skipped start end) = (4, (start, (end, [])))
+abbrev parts_of_report : CopyReport → ReportParts
+parts_of_report (reached end) = (0, (end, (0, [])))
+parts_of_report (lost block) = (1, (block, (0, [])))
+parts_of_report (begun entries) = (2, (0, (0, entries)))
+parts_of_report (given start end) = (3, (start, (end, [])))
+parts_of_report (skipped start end) = (4, (start, (end, [])))
 
-abbrev of_parts : Parts → Report
-of_parts (k, (start, (end, entries))) = cond (k == 0) (reached start) (cond (k == 1) (lost start)
+abbrev report_of_parts : ReportParts → CopyReport
+report_of_parts (k, (start, (end, entries))) = cond (k == 0) (reached start) (cond (k == 1) (lost start)
     (cond (k == 2) (begun entries) (cond (k == 3) (given start end) (skipped start end))))
 
-pub of_to_parts : (r : Report) → of_parts (to_parts r) ≡ r
-of_to_parts (reached end) = refl
-of_to_parts (lost block) = refl
-of_to_parts (begun entries) = refl
-of_to_parts (given start end) = refl
-of_to_parts (skipped start end) = refl
+pub same_report : (r : CopyReport) → report_of_parts (parts_of_report r) ≡ r
+same_report (reached end) = refl
+same_report (lost block) = refl
+same_report (begun entries) = refl
+same_report (given start end) = refl
+same_report (skipped start end) = refl
 
-abbrev pub report_code : Coded Report
-report_code = code_by Parts (coded× coded_ℕ (coded× coded_ℕ (coded× coded_ℕ (coded_list entry_code))))
-    to_parts of_parts of_to_parts
+abbrev pub report_code : Coded CopyReport
+report_code = code_by ReportParts (coded× coded_ℕ (coded× coded_ℕ (coded× coded_ℕ (coded_list entry_code))))
+    parts_of_report report_of_parts same_report
 
-abbrev pub reports_code : Coded (List Report)
+abbrev pub reports_code : Coded (List CopyReport)
 reports_code = coded_list report_code

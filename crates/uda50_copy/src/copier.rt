@@ -9,8 +9,8 @@ ghost use Rattle.uda_driver.specs.Run.{units_of};
 ghost use Rattle.uda50_copy.specs.Copy.{units_in, source_of, unit_of, CopiesIfSound, EqualIfSound, ChangesNoBlock};
 ghost use Rattle.uda50_copy.specs.Copy.{PreparesWrites, ExecutesWrites, WritesNothing, ReturnsBlocks, EachReturnsBlocks};
 ghost use Rattle.uda50_copy.specs.Copy.{AddsPiece, IsBlockRead, AreEqualReads, AreSameBytes};
-ghost use Rattle.uda50_copy.specs.Reports.{Tells, TellsLost, TellsEnd, CopiesAsTold, stage_of};
-ghost use Rattle.uda50_copy.specs.Changes.{ChangesOnly, ChangesWritten, HoldsWritten, ReturnsWhole, IsSoundSource};
+ghost use Rattle.uda50_copy.specs.Reports.{AddsReports, ReportsLost, ReportsLastBlock, CopiesAsTold, stage_of};
+ghost use Rattle.uda50_copy.specs.Changes.{ChangesWithin, ChangesWritten, HoldsWritten, ReturnsWhole, IsSoundSource};
 ghost use Rattle.uda50_copy.specs.Changes.{AddsAllBut, RunsAsTold};
 
 use crate::error::{CopyError, Side};
@@ -32,10 +32,10 @@ const RUN: u32 = 64 * REQUEST_BLOCKS;
 /// An observer of a copy's progress.
 pub trait Observer {
     ghost use Rattle.std.specs.Prelude.{◌≡◌, List, ◌∷◌};
-    ghost use Rattle.uda50_copy.specs.Report.{Report, reached, lost};
+    ghost use Rattle.uda50_copy.specs.Report.{CopyReport, reached, lost};
 
     /// The reports so far, the newest first.
-    ghost reports: { Self → List Report };
+    ghost reports: { Self → List CopyReport };
 
     /// Called when all blocks before `end` are copied, lost or compared.
     fn reached(&mut self, end: u32)
@@ -96,10 +96,10 @@ impl<S: BlockStore + Drop> Copier<S> {
         ensures skips_lost { self.new.skips_lost ≡ self.old.skips_lost }
         ensures copies { OnOk result (CopiesIfSound self.old.skips_lost blocks.start blocks.end
             (units_in self.old) (units_in self.new)) }
-        ensures changes_only { ChangesOnly blocks.start blocks.end (units_in self.old) (units_in self.new) }
+        ensures changes_only { ChangesWithin blocks.start blocks.end (units_in self.old) (units_in self.new) }
         ensures copies_as_told { CopiesAsTold self.old.skips_lost blocks.start blocks.end
             (stage_of self.old (W.reports observer.old)) (stage_of self.new (W.reports observer.new)) }
-        ensures tells_end { OnOk result (TellsEnd blocks.start blocks.end
+        ensures tells_end { OnOk result (ReportsLastBlock blocks.start blocks.end
             (W.reports observer.old) (W.reports observer.new)) }
     {
         let mut done = blocks.start;
@@ -125,8 +125,8 @@ impl<S: BlockStore + Drop> Copier<S> {
         ensures changes_no_block { ChangesNoBlock (units_in self.old) (units_in self.new) }
         ensures equal { OnOk result (EqualIfSound self.old.skips_lost blocks.start blocks.end
             (units_in self.old) (units_in self.new)) }
-        ensures tells { Tells false blocks.start blocks.end (W.reports observer.old) (W.reports observer.new) }
-        ensures tells_end { OnOk result (TellsEnd blocks.start blocks.end
+        ensures tells { AddsReports false blocks.start blocks.end (W.reports observer.old) (W.reports observer.new) }
+        ensures tells_end { OnOk result (ReportsLastBlock blocks.start blocks.end
             (W.reports observer.old) (W.reports observer.new)) }
     {
         let mut done = blocks.start;
@@ -150,7 +150,7 @@ impl<S: BlockStore + Drop> Copier<S> {
         ensures skips_lost { self.new.skips_lost ≡ self.old.skips_lost }
         ensures copies { OnOk result (CopiesIfSound self.old.skips_lost blocks.start blocks.end
             (units_in self.old) (units_in self.new)) }
-        ensures changes_only { ChangesOnly blocks.start blocks.end (units_in self.old) (units_in self.new) }
+        ensures changes_only { ChangesWithin blocks.start blocks.end (units_in self.old) (units_in self.new) }
         ensures runs { RunsAsTold
             (record { skips_lost = self.old.skips_lost; from = blocks.start; to = blocks.end }) blocks.start
             (stage_of self.old (W.reports observer.old)) (stage_of self.new (W.reports observer.new)) }
@@ -172,7 +172,7 @@ impl<S: BlockStore + Drop> Copier<S> {
         requires some { blocks.start < blocks.end }
         ensures skips_lost { self.new.skips_lost ≡ self.old.skips_lost }
         ensures changes_no_block { ChangesNoBlock (units_in self.old) (units_in self.new) }
-        ensures tells { TellsLost self.old.skips_lost blocks.start blocks.end
+        ensures tells { ReportsLost self.old.skips_lost blocks.start blocks.end
             (W.reports observer.old) (W.reports observer.new) }
         ensures adds_all_but { IfOk result (λ writes. AddsAllBut
             (record { skips_lost = self.old.skips_lost; from = blocks.start; to = blocks.end })
@@ -207,7 +207,7 @@ impl<S: BlockStore + Drop> Copier<S> {
         requires some { piece.start < piece.end }
         ensures skips_lost { self.new.skips_lost ≡ self.old.skips_lost }
         ensures changes_no_block { ChangesNoBlock (units_in self.old) (units_in self.new) }
-        ensures tells { TellsLost self.old.skips_lost piece.start piece.end
+        ensures tells { ReportsLost self.old.skips_lost piece.start piece.end
             (W.reports observer.old) (W.reports observer.new) }
         ensures adds_all_but { OnOk result (AddsAllBut
             (record { skips_lost = self.old.skips_lost; from = piece.start; to = piece.end })
@@ -241,7 +241,7 @@ impl<S: BlockStore + Drop> Copier<S> {
         requires some { blocks.start < blocks.end }
         ensures skips_lost { self.new.skips_lost ≡ self.old.skips_lost }
         ensures changes_no_block { ChangesNoBlock (units_in self.old) (units_in self.new) }
-        ensures tells { TellsLost self.old.skips_lost blocks.start blocks.end
+        ensures tells { ReportsLost self.old.skips_lost blocks.start blocks.end
             (W.reports observer.old) (W.reports observer.new) }
         ensures adds_all_but { OnOk result (AddsAllBut
             (record { skips_lost = self.old.skips_lost; from = blocks.start; to = blocks.end })
@@ -275,7 +275,7 @@ impl<S: BlockStore + Drop> Copier<S> {
         writes: &mut Vec<Request>,
         observer: &mut W,
     ) -> Result<(), CopyError>
-        ensures tells { TellsLost self.now.skips_lost lbn (lbn + 1)
+        ensures tells { ReportsLost self.now.skips_lost lbn (lbn + 1)
             (W.reports observer.old) (W.reports observer.new) }
         ensures adds_all_but { OnOk result (AddsAllBut
             (record { skips_lost = self.now.skips_lost; from = lbn; to = lbn + 1 })

@@ -2,8 +2,8 @@
 ghost use Rattle.std.specs.Prelude.{◌≡◌, ℕ, ◌<◌, ◌≤◌, true, false, IfOk, OnOk};
 ghost use Rattle.uda50_copy.specs.Copy.{units_in};
 ghost use Rattle.uda50_copy.specs.Map.{IsUnfinishedBetween};
-ghost use Rattle.uda50_copy.specs.Changes.{ChangesOnly};
-ghost use Rattle.uda50_copy.specs.Range.{transfer_of, CopiesUnfinished, CopiesAllUnfinished};
+ghost use Rattle.uda50_copy.specs.Changes.{ChangesWithin};
+ghost use Rattle.uda50_copy.specs.Range.{states_of, CopiesUnfinished, CopiesAllUnfinished};
 ghost use Rattle.uda50_copy.specs.Range.{FinishedOnlyIf, NoneUntried};
 
 use crate::copier::Copier;
@@ -36,15 +36,15 @@ pub fn copy_unfinished<S: BlockStore + Drop, L: CopyLog + Drop, Z: ZeroBlocks>(
     zeros: &mut Z,
     blocks: Range<u32>,
 ) -> Result<(), CopyStop<L::Error>>
-    ensures changes_only { ChangesOnly blocks.start blocks.end (units_in copier.old) (units_in copier.new) }
+    ensures changes_only { ChangesWithin blocks.start blocks.end (units_in copier.old) (units_in copier.new) }
     ensures copies { notes.old.broken ≡ false → notes.new.broken ≡ false
-        → CopiesUnfinished blocks.start blocks.end (transfer_of copier.old copier.new notes.old notes.new)
+        → CopiesUnfinished blocks.start blocks.end (states_of copier.old copier.new notes.old notes.new)
         (Z.zeros zeros.new) }
     ensures copies_all { OnOk result (notes.old.broken ≡ false
-        → CopiesAllUnfinished blocks.start blocks.end (transfer_of copier.old copier.new notes.old notes.new)
+        → CopiesAllUnfinished blocks.start blocks.end (states_of copier.old copier.new notes.old notes.new)
         (Z.zeros zeros.new)) }
     ensures finished_only { notes.old.broken ≡ false → notes.new.broken ≡ false
-        → FinishedOnlyIf (transfer_of copier.old copier.new notes.old notes.new) (Z.zeros zeros.new) }
+        → FinishedOnlyIf (states_of copier.old copier.new notes.old notes.new) (Z.zeros zeros.new) }
     ensures none_untried { OnOk result (notes.old.broken ≡ false
         → NoneUntried blocks.start blocks.end notes.new.map) }
 {
@@ -72,16 +72,16 @@ fn copy_next<S: BlockStore + Drop, L: CopyLog + Drop, Z: ZeroBlocks>(
     ensures proceeds { IfOk result (λ end. blocks.start < end) }
     ensures within { IfOk result (λ end. end ≤ blocks.end) }
     ensures noted { OnOk result (notes.old.broken ≡ false → notes.new.broken ≡ false) }
-    ensures changes_only { ChangesOnly blocks.start blocks.end (units_in copier.old) (units_in copier.new) }
+    ensures changes_only { ChangesWithin blocks.start blocks.end (units_in copier.old) (units_in copier.new) }
     ensures changes_before { IfOk result (λ end.
-        ChangesOnly blocks.start end (units_in copier.old) (units_in copier.new)) }
+        ChangesWithin blocks.start end (units_in copier.old) (units_in copier.new)) }
     ensures copies { notes.old.broken ≡ false → notes.new.broken ≡ false
         → IsUnfinishedBetween blocks.start blocks.end notes.old.map
-        → CopiesUnfinished blocks.start blocks.end (transfer_of copier.old copier.new notes.old notes.new)
+        → CopiesUnfinished blocks.start blocks.end (states_of copier.old copier.new notes.old notes.new)
         (Z.zeros zeros.new) }
     ensures copies_all { IfOk result (λ end. notes.old.broken ≡ false
         → IsUnfinishedBetween blocks.start blocks.end notes.old.map
-        → CopiesAllUnfinished blocks.start end (transfer_of copier.old copier.new notes.old notes.new)
+        → CopiesAllUnfinished blocks.start end (states_of copier.old copier.new notes.old notes.new)
         (Z.zeros zeros.new)) }
 {
     let from = blocks.start;
@@ -102,14 +102,14 @@ fn copy_given<S: BlockStore + Drop, L: CopyLog + Drop>(
 ) -> Result<(), CopyStop<L::Error>>
     requires some { blocks.start < blocks.end }
     ensures noted { OnOk result (notes.new.broken ≡ false) }
-    ensures changes_only { ChangesOnly blocks.start blocks.end (units_in copier.old) (units_in copier.new) }
+    ensures changes_only { ChangesWithin blocks.start blocks.end (units_in copier.old) (units_in copier.new) }
     ensures copies { notes.old.broken ≡ false → notes.new.broken ≡ false
         → IsUnfinishedBetween blocks.start blocks.end notes.old.map
-        → CopiesUnfinished blocks.start blocks.end (transfer_of copier.old copier.new notes.old notes.new)
+        → CopiesUnfinished blocks.start blocks.end (states_of copier.old copier.new notes.old notes.new)
         (λ n. ⊥) }
     ensures copies_all { OnOk result (notes.old.broken ≡ false
         → IsUnfinishedBetween blocks.start blocks.end notes.old.map
-        → CopiesAllUnfinished blocks.start blocks.end (transfer_of copier.old copier.new notes.old notes.new)
+        → CopiesAllUnfinished blocks.start blocks.end (states_of copier.old copier.new notes.old notes.new)
         (λ n. ⊥)) }
 {
     notes.begin(&blocks);

@@ -8,7 +8,7 @@ ghost use Rattle.uda50_copy.specs.Status.{AreLater};
 use crate::copier::Observer;
 use crate::error::CopyError;
 use crate::map::{BlockMap, BlockStatus};
-use crate::trace::{ReportTrace, Span};
+use crate::trace::{BlockSpan, ReportTrace};
 use std::alloc::{AllocError, Global};
 use std::marker::Model;
 use std::ops::Range;
@@ -162,7 +162,7 @@ impl<L: CopyLog + Drop> CopyRecord<L> {
         }
         self.from = end;
         self.lost = Vec::new(self.alloc);
-        self.trace.skipped(&Span { start, end });
+        self.trace.skipped(&BlockSpan { start, end });
         self.log.reached(end, 0);
         match self.log.noted(&self.map, false) {
             Ok(()) => Ok(()),
@@ -179,7 +179,7 @@ impl<L: CopyLog + Drop> CopyRecord<L> {
     {
         self.from = blocks.start;
         self.lost = Vec::new(self.alloc);
-        self.trace.given(&Span {
+        self.trace.given(&BlockSpan {
             start: blocks.start,
             end: blocks.end,
         });
@@ -218,7 +218,7 @@ impl<L: CopyLog + Drop> Observer for CopyRecord<L> {
         self.from = end;
         self.lost = Vec::new(self.alloc);
         let saved = self.log.noted(&self.map, lost);
-        keep(&mut self.failed, saved);
+        keep_first(&mut self.failed, saved);
     }
 
     fn lost(&mut self, block: u32) {
@@ -231,7 +231,7 @@ impl<L: CopyLog + Drop> Observer for CopyRecord<L> {
 }
 
 // Keeps the first error.
-fn keep<E: Drop>(first: &mut Option<E>, done: Result<(), E>) {
+fn keep_first<E: Drop>(first: &mut Option<E>, done: Result<(), E>) {
     if let Err(error) = done {
         if first.is_none() {
             *first = Some(error);

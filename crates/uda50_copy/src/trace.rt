@@ -1,14 +1,14 @@
 //! The reports to an observer of a copy, which only contracts read.
 ghost use Rattle.std.specs.Prelude.{◌≡◌, List, [], ◌∷◌};
 ghost use Rattle.std.specs.Borrow.{ftrue};
-ghost use Rattle.uda50_copy.specs.Report.{Report, reached, lost, begun, given, skipped, reports_code};
+ghost use Rattle.uda50_copy.specs.Report.{CopyReport, reached, lost, begun, given, skipped, reports_code};
 
 use crate::map::BlockMap;
 use std::marker::Model;
 
 /// Consecutive blocks, from `start` up to `end`.
 #[derive(Clone, Copy, Debug)]
-pub(crate) struct Span {
+pub(crate) struct BlockSpan {
     pub(crate) start: u32,
     pub(crate) end: u32,
 }
@@ -16,7 +16,7 @@ pub(crate) struct Span {
 /// The reports that an observer got, the newest first. It takes no memory, and its methods do nothing at run time.
 #[derive(Drop)]
 pub struct ReportTrace {
-    pub ghost reports: { List Report } by { reports_code },
+    pub ghost reports: { List CopyReport } by { reports_code },
 }
 
 impl Model for ReportTrace {
@@ -41,7 +41,7 @@ impl ReportTrace {
 
     // Returns this trace with one more range that is given to a copy.
     #[inline(always)]
-    fn then_given(&self, _span: &Span) -> ReportTrace
+    fn then_given(&self, _span: &BlockSpan) -> ReportTrace
         ensures { result ≡ record { reports = given _span.now.start _span.now.end ∷ self.now.reports } }
     {
         ReportTrace {}
@@ -49,7 +49,7 @@ impl ReportTrace {
 
     // Returns this trace with one more range that is skipped.
     #[inline(always)]
-    fn then_skipped(&self, _span: &Span) -> ReportTrace
+    fn then_skipped(&self, _span: &BlockSpan) -> ReportTrace
         ensures { result ≡ record { reports = skipped _span.now.start _span.now.end ∷ self.now.reports } }
     {
         ReportTrace {}
@@ -57,7 +57,7 @@ impl ReportTrace {
 
     // Notes that blocks are given to a copy.
     #[inline(always)]
-    pub(crate) fn given(&mut self, span: &Span)
+    pub(crate) fn given(&mut self, span: &BlockSpan)
         ensures { self.new ≡ record { reports = given span.now.start span.now.end ∷ self.old.reports } }
     {
         *self = self.then_given(span);
@@ -65,7 +65,7 @@ impl ReportTrace {
 
     // Notes that blocks are skipped.
     #[inline(always)]
-    pub(crate) fn skipped(&mut self, span: &Span)
+    pub(crate) fn skipped(&mut self, span: &BlockSpan)
         ensures { self.new ≡ record { reports = skipped span.now.start span.now.end ∷ self.old.reports } }
     {
         *self = self.then_skipped(span);

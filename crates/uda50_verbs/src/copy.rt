@@ -1,4 +1,5 @@
 //! `uda50 copy`: copies an image to another one, a stream to an image, or an image to standard output.
+ghost use Rattle.std.specs.Prelude.{◌≡◌, ◌<◌, ◌≤◌, None, Ok, IfSome, IsErr};
 
 use crate::fault::{Fault, Suffix};
 use crate::file_fault::{FileFault, FileRole};
@@ -110,7 +111,12 @@ fn check_end(rt: &HostRuntime, copy: &Copy<'_>, end: &str) -> Result<(), FileFau
 }
 
 /// Returns the blocks to copy, after a check that the source has all of them.
-pub(crate) fn blocks_to_copy(copy: &Copy<'_>, size: u32) -> Result<Range<u32>, FileFault> {
+pub(crate) fn blocks_to_copy(copy: &Copy<'_>, size: u32) -> Result<Range<u32>, FileFault>
+    ensures all { copy.now.blocks ≡ None → result ≡ Ok (record { start = 0; end = size }) }
+    ensures asked { IfSome copy.now.blocks (λ range. range.end ≤ size
+        → result ≡ Ok (record { start = range.start; end = range.end })) }
+    ensures past_the_end { IfSome copy.now.blocks (λ range. size < range.end → IsErr result) }
+{
     match copy.blocks {
         None => Ok(0..size),
         Some(range) if range.end <= size => Ok(range.start..range.end),

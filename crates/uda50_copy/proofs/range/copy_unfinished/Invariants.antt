@@ -1,7 +1,7 @@
 use Rattle.std.proofs.Common.{◌≡◌, ◌-◌, ◌≤◌, false}
 use Rattle.uda50_copy.specs.Copy.{units_in}
-use Rattle.uda50_copy.specs.Changes.{ChangesOnly}
-use Rattle.uda50_copy.specs.Range.{CopiesAllUnfinished, transfer_of}
+use Rattle.uda50_copy.specs.Changes.{ChangesWithin}
+use Rattle.uda50_copy.specs.Range.{CopiesAllUnfinished, states_of}
 use Rattle.uda50_copy.proofs.range.copy_unfinished.Given as goal
 
 abbrev pub invariant-loop-next : goal.invariant-loop-next
@@ -9,9 +9,9 @@ invariant-loop-next g l = record {
   begun : l.fn.blocks.start ≤ l.at;
   within : l.at ≤ l.fn.blocks.end;
   noted : l.fn.notes.broken ≡ false → l.notes.broken ≡ false;
-  changes : ChangesOnly l.fn.blocks.start l.at (units_in l.fn.copier) (units_in l.copier);
+  changes : ChangesWithin l.fn.blocks.start l.at (units_in l.fn.copier) (units_in l.copier);
   copies : l.fn.notes.broken ≡ false
-      → CopiesAllUnfinished l.fn.blocks.start l.at (transfer_of l.fn.copier l.copier l.fn.notes l.notes)
+      → CopiesAllUnfinished l.fn.blocks.start l.at (states_of l.fn.copier l.copier l.fn.notes l.notes)
       (g.Z.ZeroBlocks.zeros l.zeros);
 }
 

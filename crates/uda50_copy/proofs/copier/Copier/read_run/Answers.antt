@@ -182,3 +182,6 @@ returns-clause-adds_all_but g c =
     (request_values c.in_ok-requests.requests.items) c.in_ok-requests.ensures.reads c.requires.some (came ∙ counted)
     loop.invariant.0 in
     adds_to _ _ _ _ _ _ _ last loop.invariant.1.1.1.1
+
+pub returns-in_err-writes-clause-changes_no_block : goal.returns-in_err-writes-clause-changes_no_block
+returns-in_err-writes-clause-changes_no_block g c = rw (← c.self.view_is) (changes_no_block_none _)

@@ -299,6 +299,7 @@ CRATES = {
     "test_script": (0, 9, ""),
     "workloads": (0, 8.54, ""),
     "test_show": (3, 7.2, ""),
+    "test_copy": (4, 9, ""),
 }
 # the arrows that leave by the right side and go down between two columns, each with its x
 LANES = {("uda_driver", "uda_posting"): 500, ("uda_script_run", "uda_grammar"): 740,

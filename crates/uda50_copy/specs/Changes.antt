@@ -67,7 +67,7 @@ pub record CopyRun : Type 0 where
   pub from : ℕ
   pub to : ℕ
 
--- Writes of all blocks of a run, but for those reported lost
+-- Writes of all blocks of a run, except those reported lost
 pub record WritesAllBut (blocks : List (List ℕ)) (told : List CopyReport) (writes : List Request) (from to : ℕ)
     : Type 0 where
   pub pieces : All (IsPieceOf blocks) writes
@@ -96,7 +96,7 @@ pub record AddsAllBut (run : CopyRun) (old new : WriteStage) (Is : List (List �
   pub writes : (blocks : List (List ℕ)) → Is blocks → WritesAllBut blocks tells.0.told added run.from run.to
 
 -- a run reported its lost blocks: if units are well formed, and each store is sound afterwards, its blocks up to `end`
--- are copied but for those
+-- are copied except those
 pub record RunsAsTold (run : CopyRun) (end : ℕ) (old new : CopyStage) : Type 0 where
   pub tells : ReportsLost run.skips_lost run.from run.to old.reports new.reports
   pub if_sound : AreWellFormedIfSound old.units → AllSound new.units

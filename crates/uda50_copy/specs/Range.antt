@@ -58,8 +58,8 @@ abbrev pub IsCopiedIfSound : CopyStates → ℕ → Type 0
 IsCopiedIfSound t n =
     AreWellFormedIfSound t.units → AllSound t.units_after → IsBlockOf n (source_of t.units) (target_of t.units_after)
 
--- a block was finished before, and no range has it; or it was unfinished, and a range has it: it is copied, and
--- finished now, or it was lost, and is bad now; or it was unfinished, and is finished now, since both images have zeros
+-- A block was finished before, and no range has it. Or it was unfinished, and a range has it: then it is copied, and
+-- finished now, or it was lost, and is bad now. Or it was unfinished, and is finished now, since both images have zeros
 -- there
 pub data IsDone (t : CopyStates) (told : List CopyReport) (Zeros : ℕ → Type 0) (n : ℕ) : Type 0 where
   was_finished : All (λ status. status ≡ Finished) (statuses_at t.map n) → is_given told n ≡ false

@@ -61,15 +61,15 @@ stage_of copier reports = record { units = units_in copier; reports = reports }
 abbrev pub IsBlockOf : ℕ → List (List ℕ) → List (List ℕ) → Type 0
 IsBlockOf n source target = (n < length source) × (slice_get target n ≡ slice_get source n)
 
--- unit 1 has the blocks from `from` up to `end` of unit 0, but for those reported lost, which are as before
+-- unit 1 has the blocks from `from` up to `end` of unit 0, except those reported lost, which are as before
 pub record IsCopiedBut (told : List CopyReport) (from end : ℕ) (units units_after : Units) : Type 0 where
   pub copied : (n : ℕ) → from ≤ n → n < end → is_told_lost told n ≡ false
       → IsBlockOf n (source_of units) (target_of units_after)
   pub lost_stay : (n : ℕ) → is_told_lost told n ≡ true
       → slice_get (target_of units_after) n ≡ slice_get (target_of units) n
 
--- a copy of these blocks reports what it does: if units are well formed, and each store is sound afterwards, the blocks
--- up to the last end that was reported are copied, but for those reported lost
+-- A copy of these blocks reports what it does. If units are well formed, and each store is sound afterwards, the blocks
+-- up to the last end reported are copied, except those reported lost
 pub record CopiesAsTold (skips_lost : Bool) (from to : ℕ) (old new : CopyStage) : Type 0 where
   pub tells : AddsReports skips_lost from to old.reports new.reports
   pub if_sound : AreWellFormedIfSound old.units → AllSound new.units

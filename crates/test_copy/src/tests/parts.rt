@@ -23,7 +23,11 @@ impl BlockStore for Worn {
     ghost use Rattle.uda_image.specs.Image.{image_state};
     ghost use Rattle.uda_image.specs.StoreLaws.{block_count-le, HasWholeBlocks-blocks_of};
 
-    ghost state = { λ worn. record (image_state worn.image) { faithful = false; honest = false; never_fails = false } };
+    ghost state = { λ worn. record (image_state worn.image) {
+      faithful = false;
+      honest = false;
+      never_fails = record { reads = false; writes = false };
+    } };
 
     ghost within_limit = { λ worn. block_count-le worn.image };
 

@@ -1,5 +1,5 @@
 //! A Write of blocks, and a Read of what was written.
-ghost use Rattle.std.specs.Prelude.{◌≡◌, ◌%◌, ℕ, true, ◌∷◌, [], ◌×◌, length, IfOk, IfSome, ◌↔◌};
+ghost use Rattle.std.specs.Prelude.{◌≡◌, ◌%◌, ℕ, true, ◌∷◌, [], length, IfOk, IfSome};
 ghost use Rattle.uda_disk.specs.Answer.{Data, Moved};
 ghost use Rattle.uda_disk.specs.Request.{Write};
 ghost use Rattle.uda_disk.specs.Status.{SUCCESS};

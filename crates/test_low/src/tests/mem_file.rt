@@ -1,5 +1,5 @@
 //! Images over a file in memory, whose bytes contracts know.
-ghost use Rattle.std.specs.Prelude.{◌≡◌, ◌+◌, ◌<◌, ◌≤◌, length, Some, IfSome, IfOk};
+ghost use Rattle.std.specs.Prelude.{◌≡◌, ◌+◌, ◌<◌, ◌≤◌, true, length, Some, IfSome, IfOk};
 ghost use Rattle.uda_image.specs.Image.{file_block_count, IsAsKnown};
 
 use super::images::{Call, first_wrong};

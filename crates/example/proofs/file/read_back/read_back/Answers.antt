@@ -20,7 +20,7 @@ returns-in-Some c = record {
       rw c.deref.ensures.value at told.1 in
       let run : InOrderWithFailures (disks_of (units_of c.args.driver.now)) (write_and_read 1 lbn payload)
       (Moved SUCCESS told.0 ∷ Data SUCCESS bytes ∷ []) (disks_of (units_of c.run.new.self)) =
-      rw (answers, c.len.ensures) at (c.in_ok-answers.ensures.in_order_run_with_failures_if_sound sound).run in
+      rw (answers, c.len.ensures ∙ c.args.payload.ok.0) at (c.in_ok-answers.ensures.in_order_run_with_failures_if_sound sound).run in
       let is : bytes ≡ payload = c.written_is_read.ensures.law 1 lbn told.0 payload bytes
       (units_of c.args.driver.now) (disks_of (units_of c.run.new.self)) c.requires.well_formed
       (c.in_ok-answers.ensures.sound_before 1 (sound 1)) c.requires.whole run in

@@ -152,6 +152,7 @@ impl BlockStore for RecordingImage {
       never_fails = record { reads = false; writes = false };
       failures = 0;
       failing_call = None;
+      ready = None;
     } };
 
     ghost within_limit = { λ store. block_count-le store.image };

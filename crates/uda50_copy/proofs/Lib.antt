@@ -2,6 +2,7 @@ mod Pairs
 mod Walks
 pub mod Pieces
 pub mod Told
+pub mod Losses
 pub mod Written
 pub mod Gathered
 pub mod MapLaws

@@ -165,7 +165,7 @@ PreparedSoFar skips_lost pieces units now =
 
 -- ---- the answers of a run, one after another
 
-taken_front : (s : IntoIter Told Global) (xs : List Told) (t : IntoIter Told Global) → Yields into_iter_steps s xs t
+pub taken_front : (s : IntoIter Told Global) (xs : List Told) (t : IntoIter Told Global) → Yields into_iter_steps s xs t
     → into_iter_items s ≡ xs ++ into_iter_items t
 taken_front s [] t y = ap into_iter_items y
 taken_front s (x ∷ xs) t y = y.1.0 ∙ ap (λ ys. x ∷ ys) (taken_front y.0 xs t y.2)

@@ -4,9 +4,9 @@ use Rattle.std.specs.Prelude.{◌≡◌, ℕ, ◌+◌, ◌-◌, ◌*◌, ◌<◌
 use Rattle.std.specs.Prelude.{slice_get}
 use Rattle.std.specs.List.{concat}
 use Rattle.uda_mem.specs.Put.{part, put}
-use Rattle.uda_disk.specs.Status.{SUCCESS}
+use Rattle.uda_disk.specs.Status.{SUCCESS, DRIVE_ERROR}
 use Rattle.uda_disk.specs.Request.{Read, Write, Request, is_writing}
-use Rattle.uda_disk.specs.Answer.{Answer, Data, Moved}
+use Rattle.uda_disk.specs.Answer.{Answer, Data, Moved, status_of}
 use Rattle.uda_disk.specs.Laws.{blocks_at, size_at, HasSameBlocks}
 use Rattle.uda_disk.specs.Units.{Units, disks_of, AllSound, AreSoundBefore, AreWellFormedIfSound}
 use Rattle.uda_driver.specs.Run.{DriverState, units_of}
@@ -176,7 +176,7 @@ AreWritten requests answers =
 -- what a Read's answer tells
 abbrev pub IsReading : Answer → BlockReading → Type 0
 IsReading answer (Bytes payload) = answer ≡ Data SUCCESS payload.items
-IsReading answer Failed = Unit {0}
+IsReading answer Failed = status_of answer ≡ DRIVE_ERROR
 
 -- unit 1 has these pieces of these blocks, which are within its size, and unit 0 is unchanged
 pub record HasPieces (blocks : List (List ℕ)) (from to : ℕ) (units units_after : Units) : Type 0 where

@@ -1,6 +1,6 @@
 -- What a copy or a comparison reports to its observer, and what the target of a copy then holds.
 use Rattle.std.specs.Prelude.{◌≡◌, ℕ, ◌+◌, ◌<◌, ◌≤◌, ◌||◌, Bool, true, false, nat_eq, List, [], ◌∷◌, ◌++◌, length, slice_get}
-use Rattle.uda_disk.specs.Units.{Units, AllSound, AreWellFormedIfSound}
+use Rattle.uda_disk.specs.Units.{Units, AllSound, AreWellFormedIfSound, failures_at}
 use Rattle.uda50_copy.specs.Copy.{CopierState, units_in, source_of, target_of}
 pub use Rattle.uda50_copy.specs.Report.{CopyReport, reached, lost}
 
@@ -56,6 +56,25 @@ pub record CopyStage : Type 0 where
 
 abbrev pub stage_of : CopierState → List CopyReport → CopyStage
 stage_of copier reports = record { units = units_in copier; reports = reports }
+
+-- how many calls on the source have failed
+abbrev pub source_failures : Units → ℕ
+source_failures units = failures_at (slice_get units 0)
+
+-- how many blocks were reported lost
+abbrev pub lost_count : List CopyReport → ℕ
+lost_count [] = 0
+lost_count (lost block ∷ told) = lost_count told + 1
+lost_count (_ ∷ told) = lost_count told
+
+-- if each store is sound afterwards, at least as many more calls on the source have failed as blocks were reported lost
+abbrev pub LosesFailed : CopyStage → CopyStage → Type 0
+LosesFailed old new = AllSound new.units
+    → lost_count new.reports + source_failures old.units ≤ lost_count old.reports + source_failures new.units
+
+-- no fewer calls on the source have failed, if each store is sound afterwards
+abbrev pub KeepsFailures : Units → Units → Type 0
+KeepsFailures units units_after = AllSound units_after → source_failures units ≤ source_failures units_after
 
 -- block n is on the source, and the target has the same
 abbrev pub IsBlockOf : ℕ → List (List ℕ) → List (List ℕ) → Type 0

@@ -1,15 +1,17 @@
 //! A driver over two drives that copies the first to the second.
-ghost use Rattle.std.specs.Prelude.{◌≡◌, ◌+◌, ◌-◌, ◌<◌, true, false, [], ◌++◌, ◌∷◌, length, All, IfOk, IfSome, OnOk};
+ghost use Rattle.std.specs.Prelude.{◌≡◌, ◌+◌, ◌-◌, ◌<◌, ◌≤◌, true, false, [], ◌++◌, ◌∷◌, length, All, IfOk, IfSome, OnOk};
 ghost use Rattle.uda_disk.specs.Answer.{Data};
+ghost use Rattle.uda_disk.specs.InOrderRun.{drive_errors, tells_error};
 ghost use Rattle.uda_disk.specs.Laws.{blocks_at};
 ghost use Rattle.uda_disk.specs.Status.{SUCCESS};
 ghost use Rattle.uda_disk.specs.Units.{disks_of, AllSound, AreWellFormedIfSound};
 ghost use Rattle.uda_disk.specs.Values.{request_value, request_values, answer_value, answer_values};
 ghost use Rattle.uda_driver.specs.Run.{units_of};
-ghost use Rattle.uda50_copy.specs.Copy.{units_in, source_of, unit_of, CopiesIfSound, EqualIfSound, ChangesNoBlock};
+ghost use Rattle.uda50_copy.specs.Copy.{units_in, source_of, read_of, unit_of, CopiesIfSound, EqualIfSound, ChangesNoBlock};
 ghost use Rattle.uda50_copy.specs.Copy.{PreparesWrites, ExecutesWrites, WritesNothing, ReturnsBlocks, EachReturnsBlocks};
 ghost use Rattle.uda50_copy.specs.Copy.{AddsPiece, IsBlockRead, AreEqualReads, AreSameBytes};
 ghost use Rattle.uda50_copy.specs.Reports.{AddsReports, ReportsLost, ReportsLastBlock, CopiesAsTold, stage_of};
+ghost use Rattle.uda50_copy.specs.Reports.{lost_count, source_failures, LosesFailed, KeepsFailures};
 ghost use Rattle.uda50_copy.specs.Changes.{ChangesWithin, ChangesWritten, HoldsWritten, ReturnsWhole, IsSoundSource};
 ghost use Rattle.uda50_copy.specs.Changes.{AddsAllBut, RunsAsTold};
 
@@ -101,6 +103,8 @@ impl<S: BlockStore + Drop> Copier<S> {
             (stage_of self.old (W.reports observer.old)) (stage_of self.new (W.reports observer.new)) }
         ensures tells_end { OnOk result (ReportsLastBlock blocks.start blocks.end
             (W.reports observer.old) (W.reports observer.new)) }
+        ensures loses_failed { LosesFailed (stage_of self.old (W.reports observer.old))
+            (stage_of self.new (W.reports observer.new)) }
     {
         let mut done = blocks.start;
         while done < blocks.end {
@@ -157,6 +161,8 @@ impl<S: BlockStore + Drop> Copier<S> {
         ensures runs_all { OnOk result (RunsAsTold
             (record { skips_lost = self.old.skips_lost; from = blocks.start; to = blocks.end }) blocks.end
             (stage_of self.old (W.reports observer.old)) (stage_of self.new (W.reports observer.new))) }
+        ensures loses_failed { LosesFailed (stage_of self.old (W.reports observer.old))
+            (stage_of self.new (W.reports observer.new)) }
     {
         let writes = self.read_run(blocks, observer)?;
         self.write(writes)
@@ -174,6 +180,8 @@ impl<S: BlockStore + Drop> Copier<S> {
         ensures changes_no_block { ChangesNoBlock (units_in self.old) (units_in self.new) }
         ensures tells { ReportsLost self.old.skips_lost blocks.start blocks.end
             (W.reports observer.old) (W.reports observer.new) }
+        ensures loses_failed { LosesFailed (stage_of self.old (W.reports observer.old))
+            (stage_of self.new (W.reports observer.new)) }
         ensures adds_all_but { IfOk result (λ writes. AddsAllBut
             (record { skips_lost = self.old.skips_lost; from = blocks.start; to = blocks.end })
             (record { writes = []; reports = W.reports observer.old })
@@ -209,6 +217,8 @@ impl<S: BlockStore + Drop> Copier<S> {
         ensures changes_no_block { ChangesNoBlock (units_in self.old) (units_in self.new) }
         ensures tells { ReportsLost self.old.skips_lost piece.start piece.end
             (W.reports observer.old) (W.reports observer.new) }
+        ensures loses_failed { LosesFailed (stage_of self.old (W.reports observer.old))
+            (stage_of self.new (W.reports observer.new)) }
         ensures adds_all_but { OnOk result (AddsAllBut
             (record { skips_lost = self.old.skips_lost; from = piece.start; to = piece.end })
             (record { writes = request_values writes.old.items; reports = W.reports observer.old })
@@ -243,6 +253,8 @@ impl<S: BlockStore + Drop> Copier<S> {
         ensures changes_no_block { ChangesNoBlock (units_in self.old) (units_in self.new) }
         ensures tells { ReportsLost self.old.skips_lost blocks.start blocks.end
             (W.reports observer.old) (W.reports observer.new) }
+        ensures loses_failed { LosesFailed (stage_of self.old (W.reports observer.old))
+            (stage_of self.new (W.reports observer.new)) }
         ensures adds_all_but { OnOk result (AddsAllBut
             (record { skips_lost = self.old.skips_lost; from = blocks.start; to = blocks.end })
             (record { writes = request_values writes.old.items; reports = W.reports observer.old })
@@ -277,6 +289,8 @@ impl<S: BlockStore + Drop> Copier<S> {
     ) -> Result<(), CopyError>
         ensures tells { ReportsLost self.now.skips_lost lbn (lbn + 1)
             (W.reports observer.old) (W.reports observer.new) }
+        ensures loses { lost_count (W.reports observer.new)
+            ≤ lost_count (W.reports observer.old) + tells_error 0 (read_of lbn 1) (answer_value answer) }
         ensures adds_all_but { OnOk result (AddsAllBut
             (record { skips_lost = self.now.skips_lost; from = lbn; to = lbn + 1 })
             (record { writes = request_values writes.old.items; reports = W.reports observer.old })
@@ -305,6 +319,10 @@ impl<S: BlockStore + Drop> Copier<S> {
         ensures skips_lost { self.new.skips_lost ≡ self.old.skips_lost }
         ensures changes_no_block { ChangesNoBlock (units_in self.old) (units_in self.new) }
         ensures counted { IfOk result (λ answers. length answers.items ≡ length requests.now) }
+        ensures keeps_failures { KeepsFailures (units_in self.old) (units_in self.new) }
+        ensures failed { IfOk result (λ answers. AllSound (units_in self.new) → source_failures (units_in self.new)
+            ≡ source_failures (units_in self.old)
+            + drive_errors 0 (request_values requests.now) (answer_values answers.items)) }
         ensures returns { IfOk result (λ answers. AreWellFormedIfSound (units_in self.old)
             → AllSound (units_in self.new) → EachReturnsBlocks (units_in self.old) (request_values requests.now)
             (answer_values answers.items)) }
@@ -317,6 +335,7 @@ impl<S: BlockStore + Drop> Copier<S> {
         ensures skips_lost { self.new.skips_lost ≡ self.old.skips_lost }
         ensures changes_written { ChangesWritten (request_values writes.items) (units_in self.old)
             (units_in self.new) }
+        ensures keeps_failures { KeepsFailures (units_in self.old) (units_in self.new) }
         ensures holds_written { OnOk result (HoldsWritten (request_values writes.items) (units_in self.old)
             (units_in self.new)) }
         ensures writes { OnOk result (ExecutesWrites (request_values writes.items) (units_in self.old)

@@ -8,7 +8,7 @@
 //! (`specs/Reports.antt`, `specs/Changes.antt`).
 //!
 //! A `BlockMap` has the status of each block of a copy. `copy_unfinished` copies the blocks of a range that a map
-//! doesn't have, and a `CopyRecord` notes them in the map (`specs/Record.antt`, `specs/Range.antt`).
+//! calls unfinished, and a `CopyRecord` notes them in the map (`specs/Record.antt`, `specs/Range.antt`).
 #![tactic(auto)]
 
 mod copier;

@@ -1,10 +1,11 @@
-//! The copy of a range of blocks: of those that the map doesn't have, and that aren't zeros in both images.
+//! The copy of a range of blocks: of those that the map calls unfinished, and that aren't zeros in both images.
 ghost use Rattle.std.specs.Prelude.{◌≡◌, ℕ, ◌<◌, ◌≤◌, true, false, IfOk, OnOk};
 ghost use Rattle.uda50_copy.specs.Copy.{units_in};
 ghost use Rattle.uda50_copy.specs.Map.{IsUnfinishedBetween};
 ghost use Rattle.uda50_copy.specs.Changes.{ChangesWithin};
 ghost use Rattle.uda50_copy.specs.Range.{states_of, CopiesUnfinished, CopiesAllUnfinished};
 ghost use Rattle.uda50_copy.specs.Range.{FinishedOnlyIf, NoneUntried};
+ghost use Rattle.uda50_copy.specs.Reports.{stage_of, LosesFailed};
 
 use crate::copier::Copier;
 use crate::record::{CopyLog, CopyRecord, CopyStop};
@@ -29,7 +30,8 @@ pub trait ZeroBlocks {
         ensures stay { (n : ℕ) → zeros self.old n → zeros self.new n };
 }
 
-/// Copies the blocks of a range that the record doesn't have, and skips those that are zeros in both images.
+/// Copies the blocks of a range that the map calls unfinished, and skips those that are zeros in both images. Blocks of
+/// which the map says nothing count as finished.
 pub fn copy_unfinished<S: BlockStore + Drop, L: CopyLog + Drop, Z: ZeroBlocks>(
     copier: &mut Copier<S>,
     notes: &mut CopyRecord<L>,
@@ -37,6 +39,8 @@ pub fn copy_unfinished<S: BlockStore + Drop, L: CopyLog + Drop, Z: ZeroBlocks>(
     blocks: Range<u32>,
 ) -> Result<(), CopyStop<L::Error>>
     ensures changes_only { ChangesWithin blocks.start blocks.end (units_in copier.old) (units_in copier.new) }
+    ensures loses_failed { LosesFailed (stage_of copier.old notes.old.reports)
+        (stage_of copier.new notes.new.reports) }
     ensures copies { notes.old.broken ≡ false → notes.new.broken ≡ false
         → CopiesUnfinished blocks.start blocks.end (states_of copier.old copier.new notes.old notes.new)
         (Z.zeros zeros.new) }
@@ -73,6 +77,8 @@ fn copy_next<S: BlockStore + Drop, L: CopyLog + Drop, Z: ZeroBlocks>(
     ensures within { IfOk result (λ end. end ≤ blocks.end) }
     ensures noted { OnOk result (notes.old.broken ≡ false → notes.new.broken ≡ false) }
     ensures changes_only { ChangesWithin blocks.start blocks.end (units_in copier.old) (units_in copier.new) }
+    ensures loses_failed { LosesFailed (stage_of copier.old notes.old.reports)
+        (stage_of copier.new notes.new.reports) }
     ensures changes_before { IfOk result (λ end.
         ChangesWithin blocks.start end (units_in copier.old) (units_in copier.new)) }
     ensures copies { notes.old.broken ≡ false → notes.new.broken ≡ false
@@ -103,6 +109,8 @@ fn copy_given<S: BlockStore + Drop, L: CopyLog + Drop>(
     requires some { blocks.start < blocks.end }
     ensures noted { OnOk result (notes.new.broken ≡ false) }
     ensures changes_only { ChangesWithin blocks.start blocks.end (units_in copier.old) (units_in copier.new) }
+    ensures loses_failed { LosesFailed (stage_of copier.old notes.old.reports)
+        (stage_of copier.new notes.new.reports) }
     ensures copies { notes.old.broken ≡ false → notes.new.broken ≡ false
         → IsUnfinishedBetween blocks.start blocks.end notes.old.map
         → CopiesUnfinished blocks.start blocks.end (states_of copier.old copier.new notes.old notes.new)

@@ -18,13 +18,14 @@ pub trait CopyLog {
     /// What keeps it from saving a map.
     type Error: Drop;
 
-    /// Called when all blocks before `end` are done. Since the call before, `copied` of them were copied or lost.
+    /// Called when all blocks before `end` are done. Since the map last changed, `copied` of them were copied or lost.
     fn reached(&mut self, end: u32, copied: u32);
 
     /// Called for each block of the source that can't be read, in rising order.
     fn lost(&mut self, block: u32);
 
-    /// Called with the map after each change. `lost` says whether a block was lost since the call before.
+    /// Called with the map after each change. `lost` says whether a block was lost since the call before. Once memory
+    /// lacked to note a run, it isn't called for later runs.
     fn noted(&mut self, map: &BlockMap, lost: bool) -> Result<(), Self::Error>;
 }
 

@@ -231,7 +231,7 @@ impl<'a, 'w> ImageCopy<'a, 'w> {
         warn_of_format(self.rt, copy.from.path, &block);
     }
 
-    // Copies the blocks that the map doesn't have, and ends the record.
+    // Copies the blocks that the map calls unfinished, and ends the record.
     fn copy_blocks(
         &self,
         copier: &mut Copier<Image>,

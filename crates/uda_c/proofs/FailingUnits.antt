@@ -1,7 +1,7 @@
 -- A unit whose image is changed: its drive is removed, changed and put back, and all else is unchanged.
 use Rattle.std.specs.Prelude.{Result, Ok, Err, is_ok, IfOk, IfErr, length, ◌+◌, ◌/◌, ◌%◌, ◌≤◌}
 use Rattle.std.proofs.Common.{◌≡◌, ◌≢◌, ℕ, Bool, true, false, List, subst, set, Option, Some, None, refl, sym, ap, ap₂, ◌∙◌}
-use Rattle.std.specs.Prelude.{option_map, slice_get, unwrap_or, nat_lt, is_some, if◌then◌else◌}
+use Rattle.std.specs.Prelude.{option_map, slice_get, unwrap_or, nat_lt, nat_le, is_some, if◌then◌else◌}
 use Rattle.std.proofs.lemmas.List.{set-set, set-get_or}
 use Rattle.std.proofs.lemmas.Option.{slice_get_within, slice_get-map, unwrap_or-slice_get}
 use Rattle.uda_disk.proofs.Slots.{slice_get-set_same}
@@ -10,13 +10,15 @@ use Rattle.uda_disk.specs.Units.{UnitState}
 use Rattle.uda_exec.specs.declared.drive_unit.UnitInfo.{UnitInfo}
 use Rattle.uda_exec.specs.Drives.{DriveState, drive_in, fresh_unit, returned_drive, info_of, info_at, in_mode, with_drive}
 use Rattle.uda_port.specs.Port.{PortState}
-use Rattle.uda_c.specs.declared.call_status.CallStatus.TheVariants.{Done, NoSuchUnit, NotAttached, OtherKind}
+use Rattle.uda_c.specs.declared.call_status.CallStatus.TheVariants.{Done, NoSuchUnit, NotAttached, NoMemory, OtherKind}
 use Rattle.uda_c.specs.ControllerState.{ControllerState}
 use Rattle.uda_image.specs.Store.{StoreState}
+use Rattle.uda_called.specs.CalledImage.{none_ready}
 use Rattle.uda_c.specs.declared.block_range.Prepared.{Prepared}
 use Rattle.uda_c.specs.declared.call_status.CallStatus.{CallStatus}
-use Rattle.uda_c.specs.BlockRange.{LendsBlocks, AllowsBlocks, size_in, size_at}
-use Rattle.uda_c.specs.UnitImage.{store_failing, store_lent, is_called, is_called_in, LentAnswer, PreparedAnswer, status_of}
+use Rattle.uda_exec.specs.declared.block_use.BlockUse.{BlockUse}
+use Rattle.uda_c.specs.BlockRange.{LendsBlocks, AllowsBlocks, size_in, size_at, lend_answer_in, allow_answer_in, controller_begun}
+use Rattle.uda_c.specs.UnitImage.{store_failing, store_lent, store_begun, store_prepared, lend_answer, allow_answer, is_called, is_called_in, LentAnswer, PreparedAnswer, status_of}
 use Rattle.uda_c.specs.Controllers.{FailsAt, unit_with, with_store, port_put_back, has_image, unit_answer, failing_answer, is_called_at}
 
 -- a unit with a mode and a size has a drive
@@ -164,6 +166,28 @@ drive_size_is old u look drive e back =
     ap (λ (o : Option DriveState). unwrap_or o drive) (back ∙ handed units u s.unit s.here) in
     ap size_in s.here ∙ sym (ap (λ (d : DriveState). d.store.size) drive_is)
 
+-- and its answers to C
+pub lend_answer_is : (old : ControllerState) (u first bytes : ℕ) (look : UnitInfo) (drive : DriveState)
+    → info_at (slice_get old.port.exec.units u) ≡ Some look → Some drive ≡ returned_drive old.port.exec.units u None
+    → lend_answer first bytes drive.store ≡ lend_answer_in first bytes (slice_get old.port.exec.units u)
+lend_answer_is old u first bytes look drive e back =
+    let units = old.port.exec.units in
+    let s = seen (slice_get units u) look e in
+    let drive_is : drive ≡ drive_in s.unit =
+    ap (λ (o : Option DriveState). unwrap_or o drive) (back ∙ handed units u s.unit s.here) in
+    ap (λ (d : DriveState). lend_answer first bytes d.store) drive_is ∙ sym (ap (lend_answer_in first bytes) s.here)
+
+pub allow_answer_is : (old : ControllerState) (u count : ℕ) (way : Prepared) (look : UnitInfo) (drive : DriveState)
+    → info_at (slice_get old.port.exec.units u) ≡ Some look → Some drive ≡ returned_drive old.port.exec.units u None
+    → allow_answer way count drive.store ≡ allow_answer_in (Some way) count (slice_get old.port.exec.units u)
+allow_answer_is old u count way look drive e back =
+    let units = old.port.exec.units in
+    let s = seen (slice_get units u) look e in
+    let drive_is : drive ≡ drive_in s.unit =
+    ap (λ (o : Option DriveState). unwrap_or o drive) (back ∙ handed units u s.unit s.here) in
+    ap (λ (d : DriveState). allow_answer way count d.store) drive_is
+    ∙ sym (ap (allow_answer_in (Some way) count) s.here)
+
 -- ---- blocks that are made ready
 
 pub lent_size : (done : Bool) (first : ℕ) (from : List ℕ) (store : StoreState)
@@ -177,35 +201,93 @@ lent_faithful true first from store = refl
 lent_faithful false first from store = refl
 
 -- the calls that lend blocks, or don't
-pub lends : (old : ControllerState) (u first : ℕ) (from : List ℕ) (look : UnitInfo) (made : Result Unit CallStatus)
+pub lends : (old : ControllerState) (u first : ℕ) (from : List ℕ) (made : Result Unit CallStatus)
     (answer : CallStatus) (new : ControllerState)
     → unit_answer old u ≡ Done → LentAnswer (is_called_at old u) (status_of made)
+    → (status_of made ≢ NoMemory
+    → status_of made ≡ lend_answer_in first (length from) (slice_get old.port.exec.units u))
+    → (status_of made ≡ NoMemory → lend_answer_in first (length from) (slice_get old.port.exec.units u) ≡ Done)
     → IfOk made (λ _. (length from % 512 ≡ 0) × (first + length from / 512 ≤ size_at old u))
     → IfErr made (λ status. status ≢ Done) → answer ≡ status_of made
     → new ≡ with_store old u (store_lent (is_ok made) first from) → LendsBlocks old (u, first) from answer new
-lends old u first from look (Ok done) answer new there kind fits fails is goes = record {
+lends old u first from (Ok done) answer new there kind answers no_memory fits fails is goes = record {
   no_image = λ no. absurd (no there);
-  answers = λ _. subst (LentAnswer (is_called_at old u)) (sym is) kind;
+  kind = λ _. subst (LentAnswer (is_called_at old u)) (sym is) kind;
+  answers = λ _ memory. is ∙ answers (λ none. memory (is ∙ none));
+  no_memory = λ none. no_memory (sym is ∙ none);
   fits = λ _. fits;
   lent = λ _. goes;
   refused = λ no. absurd (no is);
 }
-lends old u first from look (Err status) answer new there kind fits fails is goes = record {
+lends old u first from (Err status) answer new there kind answers no_memory fits fails is goes = record {
   no_image = λ no. absurd (no there);
-  answers = λ _. subst (LentAnswer (is_called_at old u)) (sym is) kind;
+  kind = λ _. subst (LentAnswer (is_called_at old u)) (sym is) kind;
+  answers = λ _ memory. is ∙ answers (λ none. memory (is ∙ none));
+  no_memory = λ none. no_memory (sym is ∙ none);
   fits = λ done. absurd (fails (sym is ∙ done));
   lent = λ done. absurd (fails (sym is ∙ done));
   refused = λ _. goes ∙ nothing_changes old u;
 }
 
--- what C prepared changes nothing that a controller shows
-pub allows : (old : ControllerState) (u count : ℕ) (prepared : Prepared) (answer : CallStatus) (new : ControllerState)
-    → unit_answer old u ≡ Done → PreparedAnswer (is_called_at old u) answer
-    → (answer ≡ Done → count ≤ size_at old u) → new ≡ old
-    → AllowsBlocks old (u, count) (Some prepared) answer new
-allows old u count prepared answer new there kind fits same = record {
+pub prepared_size : (done : Bool) (way : Prepared) (count : ℕ) (store : StoreState)
+    → (store_prepared done way count store).size ≡ store.size
+prepared_size true way count store = refl
+prepared_size false way count store = refl
+
+pub prepared_faithful : (done : Bool) (way : Prepared) (count : ℕ) (store : StoreState)
+    → (store_prepared done way count store).faithful ≡ store.faithful
+prepared_faithful true way count store = refl
+prepared_faithful false way count store = refl
+
+-- the calls that make blocks ready which C prepared, or don't
+pub allows : (old : ControllerState) (u count : ℕ) (way : Prepared) (made : Result Unit CallStatus)
+    (answer : CallStatus) (new : ControllerState)
+    → unit_answer old u ≡ Done → PreparedAnswer (is_called_at old u) (status_of made)
+    → status_of made ≡ allow_answer_in (Some way) count (slice_get old.port.exec.units u)
+    → IfOk made (λ _. count ≤ size_at old u) → IfErr made (λ status. status ≢ Done) → answer ≡ status_of made
+    → new ≡ with_store old u (store_prepared (is_ok made) way count)
+    → AllowsBlocks old (u, count) (Some way) answer new
+allows old u count way (Ok done) answer new there kind answers fits fails is goes = record {
   no_image = λ no. absurd (no there);
-  answers = λ _. kind;
-  fits = fits;
-  same = same;
+  kind = λ _. subst (PreparedAnswer (is_called_at old u)) (sym is) kind;
+  answers = λ _. is ∙ answers;
+  fits = λ _. fits;
+  allowed = λ _. goes;
+  refused = λ no. absurd (no is);
 }
+allows old u count way (Err status) answer new there kind answers fits fails is goes = record {
+  no_image = λ no. absurd (no there);
+  kind = λ _. subst (PreparedAnswer (is_called_at old u)) (sym is) kind;
+  answers = λ _. is ∙ answers;
+  fits = λ done. absurd (fails (sym is ∙ done));
+  allowed = λ done. absurd (fails (sym is ∙ done));
+  refused = λ _. goes ∙ nothing_changes old u;
+}
+
+-- ---- nothing is ready
+
+pub begun_size : (first : ℕ) (store : StoreState) → (store_begun first store).size ≡ store.size
+begun_size first store = go (nat_le first store.size)
+  where
+    go : (b : Bool) → (if b then record store { ready = Some (none_ready first) } else store).size ≡ store.size
+    go true = refl
+    go false = refl
+
+pub begun_faithful : (first : ℕ) (store : StoreState) → (store_begun first store).faithful ≡ store.faithful
+begun_faithful first store = go (nat_le first store.size)
+  where
+    go : (b : Bool)
+        → (if b then record store { ready = Some (none_ready first) } else store).faithful ≡ store.faithful
+    go true = refl
+    go false = refl
+
+-- the image of a unit that C reads and writes
+pub begins : (old : ControllerState) (used : BlockUse) (new : ControllerState) → is_called_at old used.unit ≡ true
+    → new ≡ with_store old used.unit (store_begun used.first) → new ≡ controller_begun old (Some used)
+begins old used new called goes =
+    goes ∙ sym (ap (λ b. if b then with_store old used.unit (store_begun used.first) else old) called)
+
+pub begins_not : (old : ControllerState) (used : BlockUse) → is_called_at old used.unit ≡ false
+    → old ≡ controller_begun old (Some used)
+begins_not old used called =
+    sym (ap (λ b. if b then with_store old used.unit (store_begun used.first) else old) called)

@@ -1,6 +1,6 @@
 -- The blocks that the next turn uses of an image that C reads and writes, and how C makes them ready.
 use Rattle.std.specs.Prelude.{◌≡◌, ◌≢◌, ℕ, ◌+◌, ◌*◌, ◌≤◌, ◌==◌, ◌/◌, ◌%◌, ◌↔◌, Bool, true, List, length, Option, Some, None}
-use Rattle.std.specs.Prelude.{nat_lt, slice_get, if◌then◌else◌}
+use Rattle.std.specs.Prelude.{nat_lt, slice_get, IfSome, if◌then◌else◌}
 use Rattle.uda_mem.specs.Put.{part}
 use Rattle.uda_mem.specs.Slices.{IsMemory}
 use Rattle.uda_image.specs.Limits.{store_limit}
@@ -13,13 +13,13 @@ use Rattle.uda_c.specs.declared.block_range.Prepared.{Prepared}
 use Rattle.uda_c.specs.declared.block_range.Prepared.TheVariants.{Checked, Written}
 use Rattle.uda_c.specs.declared.block_range.BlockRange.{BlockRange}
 use Rattle.uda_c.specs.declared.call_status.CallStatus.{CallStatus}
-use Rattle.uda_c.specs.declared.call_status.CallStatus.TheVariants.{Done, NoSuchUnit, AlreadyAttached, BadLength, TooLarge, OtherKind}
+use Rattle.uda_c.specs.declared.call_status.CallStatus.TheVariants.{Done, NoSuchUnit, AlreadyAttached, NotAttached, NoMemory, BadLength, TooLarge, OtherKind}
 use Rattle.uda_c.specs.declared.turn_use.TurnUse.{TurnUse}
 use Rattle.uda_c.specs.ControllerState.{ControllerState}
 use Rattle.uda_c.specs.Controllers.{controller_with, has_image, unit_answer, is_called_at, with_store, memory_refusal}
 use Rattle.uda_c.specs.TurnUse.{missing_of, IsPlaceOf}
 use Rattle.uda_disk.specs.Units.{UnitState}
-use Rattle.uda_c.specs.UnitImage.{store_lent, zero_state, LentAnswer, PreparedAnswer}
+use Rattle.uda_c.specs.UnitImage.{store_lent, zero_state, store_begun, lend_answer, allow_answer, store_prepared, LentAnswer, PreparedAnswer}
 
 -- the number of a use in C
 abbrev pub access_code : BlockAccess → ℕ
@@ -67,19 +67,25 @@ abbrev pub range_reported : ControllerState → Option BlockUse → BlockRange
 range_reported c None = NO_BLOCKS
 range_reported c (Some used) = if is_called_at c used.unit then range_of used else NO_BLOCKS
 
--- the range is that of the blocks which the turn with this command uses
-pub record ReportsBlocks (c : ControllerState) (memory : List ℕ) (asked : TurnUse) (range : BlockRange)
-    : Type 0 where
+-- of such an image none is ready then, and what is made ready next is so from the first of these blocks on
+abbrev pub controller_begun : ControllerState → Option BlockUse → ControllerState
+controller_begun c None = c
+controller_begun c (Some used) =
+    if is_called_at c used.unit then with_store c used.unit (store_begun used.first) else c
+
+-- the range is that of the blocks which the turn with this command uses, and none of them is ready
+pub record ReportsBlocks (c : ControllerState) (memory : List ℕ) (asked : TurnUse)
+    (after : ControllerState × BlockRange) : Type 0 where
   pub place : ℕ
   pub place_is : IsPlaceOf c asked place
-  pub range_is : range ≡ range_reported c (blocks_of (missing_of asked.missing) c.port memory place)
+  pub range_is : after.1 ≡ range_reported c (blocks_of (missing_of asked.missing) c.port memory place)
+  pub begun : after.0 ≡ controller_begun c (blocks_of (missing_of asked.missing) c.port memory place)
 
 -- in invalid memory nothing changes
 pub record GetsBlocks (before : ControllerState × BlockRange) (memory : List ℕ) (asked : TurnUse)
     (answer : CallStatus) (after : ControllerState × BlockRange) : Type 0 where
-  pub same : after.0 ≡ before.0
-  pub reports : IsMemory memory → (answer ≡ Done) × ReportsBlocks before.0 memory asked after.1
-  pub refuses : (IsMemory memory → ⊥) → (answer ≡ memory_refusal memory) × (after.1 ≡ before.1)
+  pub reports : IsMemory memory → (answer ≡ Done) × ReportsBlocks before.0 memory asked after
+  pub refuses : (IsMemory memory → ⊥) → (answer ≡ memory_refusal memory) × (after ≡ before)
 
 -- as many bytes are written to blocks after the first of them
 abbrev pub HasPart : List ℕ → ℕ → ℕ → Type 0
@@ -113,11 +119,26 @@ size_in _ = 0
 abbrev pub size_at : ControllerState → ℕ → ℕ
 size_at c unit = size_in (slice_get c.port.exec.units unit)
 
+-- the status of lending as many bytes from a block of a unit's image on, if no allocation fails
+abbrev pub lend_answer_in : ℕ → ℕ → Option (Option UnitState) → CallStatus
+lend_answer_in first bytes (Some (Some unit)) = lend_answer first bytes unit.store
+lend_answer_in first bytes _ = NotAttached
+
+-- the status of making the next blocks of a unit's image ready which C prepared in this way
+abbrev pub allow_answer_in : Option Prepared → ℕ → Option (Option UnitState) → CallStatus
+allow_answer_in None count unit = OtherKind
+allow_answer_in (Some prepared) count (Some (Some unit)) = allow_answer prepared count unit.store
+allow_answer_in (Some prepared) count _ = NotAttached
+
 -- blocks of a unit's image are lent from one on: they are whole blocks of it; or nothing changes
 pub record LendsBlocks (old : ControllerState) (place : ℕ × ℕ) (from : List ℕ) (answer : CallStatus)
     (new : ControllerState) : Type 0 where
   pub no_image : unit_answer old place.0 ≢ Done → answer ≡ unit_answer old place.0
-  pub answers : unit_answer old place.0 ≡ Done → LentAnswer (is_called_at old place.0) answer
+  pub kind : unit_answer old place.0 ≡ Done → LentAnswer (is_called_at old place.0) answer
+  pub answers : unit_answer old place.0 ≡ Done → answer ≢ NoMemory
+      → answer ≡ lend_answer_in place.1 (length from) (slice_get old.port.exec.units place.0)
+  pub no_memory : answer ≡ NoMemory
+      → lend_answer_in place.1 (length from) (slice_get old.port.exec.units place.0) ≡ Done
   pub fits : answer ≡ Done → (length from % 512 ≡ 0) × (place.1 + length from / 512 ≤ size_at old place.0)
   pub lent : answer ≡ Done → new ≡ with_store old place.0 (store_lent true place.1 from)
   pub refused : answer ≢ Done → new ≡ old
@@ -127,11 +148,14 @@ abbrev pub AllowAnswer : Option Prepared → Bool → CallStatus → Type 0
 AllowAnswer None called answer = answer ≡ OtherKind
 AllowAnswer (Some prepared) called answer = PreparedAnswer called answer
 
--- C prepared the next blocks of a unit, as many as the image has at most. Which blocks are ready isn't in the
--- controller's state.
+-- the next blocks of a unit's image are ready, which C prepared in this way: the image has as many; or nothing changes
 pub record AllowsBlocks (old : ControllerState) (asked : ℕ × ℕ) (prepared : Option Prepared)
     (answer : CallStatus) (new : ControllerState) : Type 0 where
   pub no_image : unit_answer old asked.0 ≢ Done → answer ≡ unit_answer old asked.0
-  pub answers : unit_answer old asked.0 ≡ Done → AllowAnswer prepared (is_called_at old asked.0) answer
+  pub kind : unit_answer old asked.0 ≡ Done → AllowAnswer prepared (is_called_at old asked.0) answer
+  pub answers : unit_answer old asked.0 ≡ Done
+      → answer ≡ allow_answer_in prepared asked.1 (slice_get old.port.exec.units asked.0)
   pub fits : answer ≡ Done → asked.1 ≤ size_at old asked.0
-  pub same : new ≡ old
+  pub allowed : answer ≡ Done
+      → IfSome prepared (λ way. new ≡ with_store old asked.0 (store_prepared true way asked.1))
+  pub refused : answer ≢ Done → new ≡ old

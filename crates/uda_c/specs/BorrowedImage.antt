@@ -34,6 +34,7 @@ borrowed_state image = record {
   never_fails = never_fails_by image.left;
   failures = failures_of image.left;
   failing_call = image.left;
+  ready = None;
 }
 
 -- the store whose call of this number from now on fails, and no other; None if none fails

@@ -1,12 +1,11 @@
 -- The image of a unit as a store: bytes that C has lent, or blocks that C reads and writes by calls of its own.
-use Rattle.std.specs.Prelude.{◌≡◌, ◌⊎◌, ℕ, nat_le, ◌&&◌, not, Bool, true, false, List, Option, Some, None, is_none, Result, Ok, Err}
+use Rattle.std.specs.Prelude.{◌≡◌, ◌⊎◌, ℕ, nat_le, ◌&&◌, not, Bool, true, false, List, Option, Some, None, is_none, option_map, Result, Ok, Err}
 use Rattle.std.specs.Prelude.{if◌then◌else◌}
 use Rattle.std.specs.List.{concat}
-use Rattle.uda_image.specs.Store.{StoreState}
+use Rattle.uda_image.specs.Store.{StoreState, ReadyBlocks}
 use Rattle.uda_disk.specs.Units.{UnitState}
-use Rattle.uda_image.specs.Image.{block_count_of}
-use Rattle.uda_called.specs.CalledImage.{called_state, zero_image, begun_at, can_lend, with_lent, with_blocks_lent}
-use Rattle.uda_called.specs.CalledImage.{can_check, can_allow, with_checked, with_writable}
+use Rattle.uda_called.specs.CalledImage.{called_state, zero_image, none_ready, can_lend, with_blocks_lent}
+use Rattle.uda_called.specs.CalledImage.{can_check, can_allow, ready_checked, ready_writable}
 use Rattle.uda_called.specs.declared.image.LendError.{LendError}
 use Rattle.uda_called.specs.declared.image.LendError.TheVariants.{Length, NoMemory as AllocationFailed}
 use Rattle.uda_c.specs.declared.call_status.CallStatus.{CallStatus}
@@ -73,34 +72,44 @@ abbrev pub PreparedAnswer : Bool → CallStatus → Type 0
 PreparedAnswer true answer = (answer ≡ Done) ⊎ (answer ≡ BadLength)
 PreparedAnswer false answer = answer ≡ OtherKind
 
--- ---- what is ready of a unit's image
+-- the status of a call on the ready blocks of an image, which is of another kind if nobody makes its blocks ready
+abbrev pub by_ready : Option ReadyBlocks → (ReadyBlocks → CallStatus) → CallStatus
+by_ready None answer = OtherKind
+by_ready (Some ready) answer = answer ready
 
--- what was ready is dropped, and the next that is made ready is this block, if the image has as many
-abbrev pub image_begun : ℕ → UnitImage → UnitImage
-image_begun first (Lent image) = Lent image
-image_begun first (Called image) =
-    Called (if nat_le first (block_count_of image.bytes) then begun_at first image else image)
+-- ---- the blocks that are ready of an image that C reads and writes
+
+-- no block is ready, and the next that is made ready is this one, if the image has as many
+abbrev pub store_begun : ℕ → StoreState → StoreState
+store_begun first store =
+    if nat_le first store.size then record store { ready = Some (none_ready first) } else store
+
+-- the same of an image that C reads and writes; another one stays as it is
+abbrev pub called_begun : ℕ → StoreState → StoreState
+called_begun first store = if is_called store then store_begun first store else store
 
 -- the status of lending as many bytes from this block on, if no allocation fails
-abbrev pub lend_answer : ℕ → ℕ → UnitImage → CallStatus
-lend_answer first bytes (Lent image) = OtherKind
-lend_answer first bytes (Called image) = if can_lend image first bytes then Done else BadLength
+abbrev pub lend_answer : ℕ → ℕ → StoreState → CallStatus
+lend_answer first bytes store = by_ready store.ready
+    (λ ready. if can_lend ready store.size first bytes then Done else BadLength)
 
--- the image after these bytes were lent, if that was done
-abbrev pub image_lent : Bool → ℕ → List ℕ → UnitImage → UnitImage
-image_lent true first from (Called image) = Called (with_lent first from image)
-image_lent done first from image = image
+-- as many blocks follow those that C prepared in this way, in an image of this size
+abbrev pub can_prepare : Prepared → ReadyBlocks → ℕ → ℕ → Bool
+can_prepare Checked ready size count = can_check ready size count
+can_prepare Written ready size count = can_allow ready size count
+
+-- this many more blocks are ready that C prepared in this way
+abbrev pub ready_prepared : Prepared → ℕ → ReadyBlocks → ReadyBlocks
+ready_prepared Checked count ready = ready_checked count ready
+ready_prepared Written count ready = ready_writable count ready
 
 -- the status of making the next blocks ready which C prepared in this way
-abbrev pub allow_answer : Prepared → ℕ → UnitImage → CallStatus
-allow_answer prepared count (Lent image) = OtherKind
-allow_answer Checked count (Called image) = if can_check image count then Done else BadLength
-allow_answer Written count (Called image) = if can_allow image count then Done else BadLength
+abbrev pub allow_answer : Prepared → ℕ → StoreState → CallStatus
+allow_answer prepared count store = by_ready store.ready
+    (λ ready. if can_prepare prepared ready store.size count then Done else BadLength)
 
--- the image after that
-abbrev pub image_allowed : Prepared → ℕ → UnitImage → UnitImage
-image_allowed prepared count (Lent image) = Lent image
-image_allowed Checked count (Called image) =
-    Called (if can_check image count then with_checked count image else image)
-image_allowed Written count (Called image) =
-    Called (if can_allow image count then with_writable count image else image)
+-- the store after that, if it was done
+abbrev pub store_prepared : Bool → Prepared → ℕ → StoreState → StoreState
+store_prepared true prepared count store =
+    record store { ready = option_map (ready_prepared prepared count) store.ready }
+store_prepared false prepared count store = store

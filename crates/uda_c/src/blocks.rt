@@ -1,9 +1,9 @@
 //! Images that C reads and writes by calls of its own, and the blocks of them that a turn uses.
-ghost use Rattle.std.specs.Prelude.{◌≡◌, ◌≢◌, ◌+◌, ◌*◌, ◌≤◌, length};
+ghost use Rattle.std.specs.Prelude.{◌≡◌, ◌≢◌, ◌+◌, ◌*◌, ◌≤◌, length, Some};
 ghost use Rattle.uda_image.specs.Limits.{store_limit};
 ghost use Rattle.uda_mem.specs.Slices.{IsMemory};
 ghost use Rattle.uda_c.specs.declared.call_status.CallStatus.TheVariants.{Done};
-ghost use Rattle.uda_c.specs.BlockRange.{AttachesCalled, GetsBlocks, ReportsBlocks, GetsWritten};
+ghost use Rattle.uda_c.specs.BlockRange.{AttachesCalled, GetsBlocks, ReportsBlocks, controller_begun, GetsWritten};
 ghost use Rattle.uda_c.specs.BlockRange.{CopiesWritten, LendsBlocks, AllowsBlocks};
 ghost use Rattle.uda_c.specs.Controllers.{is_called_at};
 ghost use Rattle.uda_c.specs.UnitImage.{status_of};
@@ -57,11 +57,10 @@ impl Controller {
         }
     }
 
-    // Returns these blocks in valid memory.
+    // Returns these blocks in valid memory. None of the unit's blocks is ready then.
     fn begin_blocks(&mut self, memory: &[u8], turn: &TurnUse) -> BlockRange
         requires memory { IsMemory memory.now }
-        ensures reports { ReportsBlocks self.old memory.now turn.now result }
-        ensures same { self.new ≡ self.old }
+        ensures reports { ReportsBlocks self.old memory.now turn.now (self.new, result) }
     {
         let place = self.place_of(turn);
         match self.port.blocks_at(memory, place, turn.missing()) {
@@ -73,7 +72,7 @@ impl Controller {
     // Drops what is ready of the unit's image, if C reads and writes it. Returns whether it does.
     fn begin(&mut self, used: BlockUse) -> bool
         ensures called { result ≡ is_called_at self.old used.unit }
-        ensures same { self.new ≡ self.old }
+        ensures begun { self.new ≡ controller_begun self.old (Some used) }
     {
         let unit = usize::from(used.unit);
         let Some(look) = self.port.unit(unit) else {
@@ -155,9 +154,9 @@ impl Controller {
         match self.port.exchange_drive(unit, None) {
             Some(Drive { store, hard }) => {
                 let mut store = store;
-                let answer = store.allow(prepared, count);
+                let allowed = store.allow(prepared, count);
                 put_back(&mut self.port, unit, Drive { store, hard }, look.mode);
-                answer
+                status_of(allowed)
             }
             None => CallStatus::NotAttached,
         }

@@ -7,7 +7,7 @@ ghost use Rattle.uda_image.specs.Store.{Reads, Writes, KeepsAttributes, is_sound
 ghost use Rattle.uda_called.specs.CalledImage.{zero_image};
 ghost use Rattle.uda_c.specs.BorrowedImage.{IsWhole};
 ghost use Rattle.uda_c.specs.UnitImage.{unit_state, is_called, bytes_of_store, store_failing, store_lent, LentAnswer, PreparedAnswer, status_of, status_of_error};
-ghost use Rattle.uda_c.specs.UnitImage.{image_begun, lend_answer, image_lent, allow_answer, image_allowed};
+ghost use Rattle.uda_c.specs.UnitImage.{called_begun, lend_answer, allow_answer, store_prepared};
 ghost use Rattle.uda_c.specs.UnitImage.{zero_state, lent_state};
 ghost use Rattle.uda_c.specs.UnitImageLaws.{within_limit_of, whole_blocks_of};
 ghost use Rattle.uda_image.specs.Limits.{store_limit};
@@ -90,8 +90,7 @@ impl UnitImage {
     /// Drops what is ready of blocks that C reads and writes. Those that are made ready next are those from this one
     /// on. Does nothing if the image has fewer blocks.
     pub fn begin(&mut self, first: u32)
-        ensures image { self.new ≡ image_begun first self.old }
-        ensures state { unit_state self.new ≡ unit_state self.old }
+        ensures state { unit_state self.new ≡ called_begun first (unit_state self.old) }
     {
         if let UnitImage::Called(image) = self {
             image.begin(first);
@@ -101,10 +100,10 @@ impl UnitImage {
     /// Lends the bytes of blocks from this one on.
     pub fn lend(&mut self, first: u32, from: &[u8]) -> Result<(), CallStatus>
         ensures state { unit_state self.new ≡ store_lent (is_ok result) first from.now (unit_state self.old) }
-        ensures image { self.new ≡ image_lent (is_ok result) first from.now self.old }
         ensures answer { status_of result ≢ NoMemory
-            → status_of result ≡ lend_answer first (length from.now) self.old }
-        ensures no_memory { status_of result ≡ NoMemory → lend_answer first (length from.now) self.old ≡ Done }
+            → status_of result ≡ lend_answer first (length from.now) (unit_state self.old) }
+        ensures no_memory { status_of result ≡ NoMemory
+            → lend_answer first (length from.now) (unit_state self.old) ≡ Done }
         ensures kind { LentAnswer (is_called (unit_state self.old)) (status_of result) }
         ensures fits { IfOk result (λ _. (length from.now % 512 ≡ 0)
             × (first + length from.now / 512 ≤ (unit_state self.old).size)) }
@@ -120,24 +119,24 @@ impl UnitImage {
     }
 
     /// Makes the next blocks ready: they are readable, or a command may write them.
-    pub fn allow(&mut self, prepared: Prepared, count: u32) -> CallStatus
-        ensures state { unit_state self.new ≡ unit_state self.old }
-        ensures image { self.new ≡ image_allowed prepared count self.old }
-        ensures answer { result ≡ allow_answer prepared count self.old }
-        ensures kind { PreparedAnswer (is_called (unit_state self.old)) result }
-        ensures fits { result ≡ Done → count ≤ (unit_state self.old).size }
+    pub fn allow(&mut self, prepared: Prepared, count: u32) -> Result<(), CallStatus>
+        ensures state { unit_state self.new ≡ store_prepared (is_ok result) prepared count (unit_state self.old) }
+        ensures answer { status_of result ≡ allow_answer prepared count (unit_state self.old) }
+        ensures kind { PreparedAnswer (is_called (unit_state self.old)) (status_of result) }
+        ensures fits { IfOk result (λ _. count ≤ (unit_state self.old).size) }
+        ensures refused { IfErr result (λ status. status ≢ Done) }
     {
         let UnitImage::Called(image) = self else {
-            return CallStatus::OtherKind;
+            return Err(CallStatus::OtherKind);
         };
         let has_room = match prepared {
             Prepared::Checked => image.check(count),
             Prepared::Written => image.allow(count),
         };
         if has_room {
-            CallStatus::Done
+            Ok(())
         } else {
-            CallStatus::BadLength
+            Err(CallStatus::BadLength)
         }
     }
 }

@@ -138,7 +138,7 @@ lent_part size lent image n count is from to =
 
 module _ (image : CalledBlocks) (n : ℕ) where
   pub reads_one : n < block_count_of image.bytes → (to : List ℕ) → to ≡ block_of image.bytes n
-      → ReadsBlock (called_state image) n (called_state image) to
+      → ReadsBlock (called_state image) n (called_state (with_used (n + 1) image)) to
   reads_one there to is = record {
     value = slice_get-blocks_of image.bytes n there ∙ ap Some (sym is);
     state_stays = refl;
@@ -146,7 +146,8 @@ module _ (image : CalledBlocks) (n : ℕ) where
   }
 
   pub reads_many : (count : ℕ) → n + count ≤ block_count_of image.bytes → (to : List ℕ)
-      → to ≡ part image.bytes (512 * n) (512 * count) → ReadsBlocks (called_state image) n count (called_state image) to
+      → to ≡ part image.bytes (512 * n) (512 * count)
+      → ReadsBlocks (called_state image) n count (called_state (with_used (n + count) image)) to
   reads_many count there to is = record {
     value = is ∙ sym (concat-part_blocks image.bytes n count there);
     state_stays = refl;
@@ -181,7 +182,8 @@ module _ (image : CalledBlocks) (n : ℕ) where
   pub writes_one : n < block_count_of image.bytes → (from : List ℕ) → length from ≡ 512
       → WritesBlock (called_state image) n (called_state (with_written n 1 from image)) from
   writes_one there from long = record {
-    written = ap₂ (λ (b : List (List ℕ)) size. record (called_state image) { blocks = b; size = size })
+    written = ap₂ (λ (b : List (List ℕ)) size.
+        record (called_state (with_written n 1 from image)) { blocks = b; size = size })
         (ap blocks_of (put-is-with_block image.bytes n from (block_within image.bytes n there) long)
         ∙ blocks_of-with_block image.bytes n from there long)
         (block_count-put image.bytes (512 * n) from);
@@ -191,7 +193,8 @@ module _ (image : CalledBlocks) (n : ℕ) where
   pub writes_many : (count : ℕ) → n + count ≤ block_count_of image.bytes → (from : List ℕ) → length from ≡ 512 * count
       → WritesBlocks (called_state image) n count (called_state (with_written n count from image)) from
   writes_many count there from long = record {
-    written = ap₂ (λ (b : List (List ℕ)) size. record (called_state image) { blocks = b; size = size })
+    written = ap₂ (λ (b : List (List ℕ)) size.
+        record (called_state (with_written n count from image)) { blocks = b; size = size })
         (blocks_of-put image.bytes n count from there long) (block_count-put image.bytes (512 * n) from);
     calls = record { before = tt; sooner = refl };
   }
@@ -201,6 +204,6 @@ pub lent_blocks : (image : CalledBlocks) (first : ℕ) (from : List ℕ) → len
     → first + length from / 512 ≤ block_count_of image.bytes
     → called_state (with_lent first from image) ≡ with_blocks_lent first from (called_state image)
 lent_blocks image first from whole room =
-    ap₂ (λ (b : List (List ℕ)) size. record (called_state image) { blocks = b; size = size })
+    ap₂ (λ (b : List (List ℕ)) size. record (called_state (with_lent first from image)) { blocks = b; size = size })
     (blocks_of-put image.bytes first (length from / 512) from room (omega (arith, whole)))
     (block_count-put image.bytes (512 * first) from)

@@ -1,12 +1,12 @@
 -- Images that a program reads and writes by calls of its own.
 -- MSCP Basic Disk Functions Manual: a unit is an array of logical blocks of 512 bytes, numbered from 0.
-use Rattle.std.specs.Prelude.{◌≡◌, ◌≤◌, ℕ, ◌+◌, ◌*◌, ◌/◌, ◌%◌, ◌-◌, Bool, true, false, ◌&&◌, nat_eq, nat_le, min, List, length, replicate, None}
+use Rattle.std.specs.Prelude.{◌≡◌, ◌≤◌, ℕ, ◌+◌, ◌*◌, ◌/◌, ◌%◌, ◌-◌, Bool, true, false, ◌&&◌, nat_eq, nat_le, min, List, length, replicate, Some, None, option_map}
 use Rattle.std.specs.Prelude.{if◌then◌else◌}
 use Rattle.std.specs.Simd.{first_chunks}
 use Rattle.uda_mem.specs.Put.{put, part}
 use Rattle.uda_image.specs.Image.{block_count_of, blocks_of}
 use Rattle.uda_image.specs.File.{Holding, holding_after}
-use Rattle.uda_image.specs.Store.{StoreState}
+use Rattle.uda_image.specs.Store.{StoreState, ReadyBlocks}
 use Rattle.uda_image.specs.declared.trace.FileTrace.{FileTrace}
 use Rattle.uda_called.specs.declared.image.Ready.{Ready}
 
@@ -15,7 +15,7 @@ use Rattle.uda_called.specs.declared.image.Ready.{Ready}
 pub record CalledBlocks : Type 0 where
   pub bytes : List ℕ
   pub failures : ℕ
-  pub ready : Ready
+  pub ready : ReadyBlocks
 
 -- The image as a store. It is faithful, and it isn't known which of its calls fails.
 abbrev pub called_state : CalledBlocks → StoreState
@@ -27,10 +27,11 @@ called_state image = record {
   never_fails = record { reads = false; writes = false };
   failures = image.failures;
   failing_call = None;
+  ready = Some image.ready;
 }
 
 -- no block is ready; the first that will be is this one
-abbrev pub none_ready : ℕ → Ready
+abbrev pub none_ready : ℕ → ReadyBlocks
 none_ready first = record { first = first; next = first; lent = 0; checked = 0; writable = 0 }
 
 -- an image of zeros
@@ -41,46 +42,56 @@ zero_image blocks = record { bytes = replicate (512 * blocks) 0; failures = 0; r
 abbrev pub begun_at : ℕ → CalledBlocks → CalledBlocks
 begun_at first image = record image { ready = none_ready first }
 
--- count blocks follow the first `these` of those that are ready
-abbrev pub has_room : CalledBlocks → ℕ → ℕ → Bool
-has_room image these count = nat_le (image.ready.first + these + count) (block_count_of image.bytes)
+-- count blocks follow the first `these` of those that are ready, in an image of this size
+abbrev pub has_room : ReadyBlocks → ℕ → ℕ → ℕ → Bool
+has_room ready size these count = nat_le (ready.first + these + count) size
 
 -- this many bytes from this block on are the next to lend: they are whole blocks, and the image has as many
-abbrev pub can_lend : CalledBlocks → ℕ → ℕ → Bool
-can_lend image first bytes =
-    nat_eq first (image.ready.first + image.ready.lent) && nat_eq (bytes % 512) 0
-    && has_room image image.ready.lent (bytes / 512)
+abbrev pub can_lend : ReadyBlocks → ℕ → ℕ → ℕ → Bool
+can_lend ready size first bytes =
+    nat_eq first (ready.first + ready.lent) && nat_eq (bytes % 512) 0
+    && has_room ready size ready.lent (bytes / 512)
+
+-- as many more blocks are lent
+abbrev pub ready_lent : ℕ → ReadyBlocks → ReadyBlocks
+ready_lent count ready = record ready { lent = ready.lent + count }
 
 -- the blocks of these bytes are lent too, from this one on
 abbrev pub with_lent : ℕ → List ℕ → CalledBlocks → CalledBlocks
 with_lent first from image = record image {
   bytes = put image.bytes (512 * first) from;
-  ready = record image.ready { lent = image.ready.lent + length from / 512 };
+  ready = ready_lent (length from / 512) image.ready;
 }
 
 -- the store after that
 abbrev pub with_blocks_lent : ℕ → List ℕ → StoreState → StoreState
-with_blocks_lent first from store =
-    record store { blocks = put store.blocks first (first_chunks 512 (length from / 512) from) }
+with_blocks_lent first from store = record store {
+  blocks = put store.blocks first (first_chunks 512 (length from / 512) from);
+  ready = option_map (ready_lent (length from / 512)) store.ready;
+}
 
 -- as many blocks follow those that are checked, or writable
-abbrev pub can_check : CalledBlocks → ℕ → Bool
-can_check image count = has_room image image.ready.checked count
+abbrev pub can_check : ReadyBlocks → ℕ → ℕ → Bool
+can_check ready size count = has_room ready size ready.checked count
 
-abbrev pub can_allow : CalledBlocks → ℕ → Bool
-can_allow image count = has_room image image.ready.writable count
+abbrev pub can_allow : ReadyBlocks → ℕ → ℕ → Bool
+can_allow ready size count = has_room ready size ready.writable count
 
 -- this many more blocks are checked, or writable
+abbrev pub ready_checked : ℕ → ReadyBlocks → ReadyBlocks
+ready_checked count ready = record ready { checked = ready.checked + count }
+
+abbrev pub ready_writable : ℕ → ReadyBlocks → ReadyBlocks
+ready_writable count ready = record ready { writable = ready.writable + count }
+
 abbrev pub with_checked : ℕ → CalledBlocks → CalledBlocks
-with_checked count image =
-    record image { ready = record image.ready { checked = image.ready.checked + count } }
+with_checked count image = record image { ready = ready_checked count image.ready }
 
 abbrev pub with_writable : ℕ → CalledBlocks → CalledBlocks
-with_writable count image =
-    record image { ready = record image.ready { writable = image.ready.writable + count } }
+with_writable count image = record image { ready = ready_writable count image.ready }
 
 -- count blocks from block n are among these ready ones, and none of them was used yet
-abbrev pub are_ready : Ready → ℕ → ℕ → ℕ → Bool
+abbrev pub are_ready : ReadyBlocks → ℕ → ℕ → ℕ → Bool
 are_ready ready these n count = nat_le ready.next n && nat_le (n + count) (ready.first + these)
 
 -- the image after blocks were used: those before block n aren't ready any more
@@ -99,7 +110,7 @@ with_written n count from image = record image {
 }
 
 -- how many of count blocks from block n on are checked and weren't used yet
-abbrev pub checked_from : Ready → ℕ → ℕ → ℕ
+abbrev pub checked_from : ReadyBlocks → ℕ → ℕ → ℕ
 checked_from ready n count =
     if nat_le ready.next n then min count (ready.first + ready.checked - n) else 0
 
@@ -109,11 +120,20 @@ checked_from ready n count =
 abbrev pub holding_by : ℕ → FileTrace → Holding
 holding_by size trace = holding_after size trace.held trace.blocks_left trace.calls
 
+abbrev pub ready_blocks : Ready → ReadyBlocks
+ready_blocks ready = record {
+  first = ready.first;
+  next = ready.next;
+  lent = ready.lent;
+  checked = ready.checked;
+  writable = ready.writable;
+}
+
 abbrev pub image_by : ℕ → Ready → FileTrace → CalledBlocks
 image_by size ready trace = record {
   bytes = (holding_by size trace).bytes;
   failures = (holding_by size trace).failures;
-  ready = ready;
+  ready = ready_blocks ready;
 }
 
 -- the ready blocks are on the unit, and these are the bytes of the lent ones

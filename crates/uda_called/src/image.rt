@@ -9,25 +9,25 @@ ghost use Rattle.uda_image.specs.Store.{Reads, Writes, KeepsAttributes};
 ghost use Rattle.uda_image.specs.StoreLaws.{block_count-le, HasWholeBlocks-blocks_of};
 ghost use Rattle.uda_called.specs.CalledImage.{called_state, none_ready, zero_image, begun_at, can_lend, with_lent, with_blocks_lent};
 ghost use Rattle.uda_called.specs.CalledImage.{can_check, can_allow, has_room, with_checked, with_writable, are_ready};
-ghost use Rattle.uda_called.specs.CalledImage.{with_failure, with_used, with_written, checked_from};
+ghost use Rattle.uda_called.specs.CalledImage.{with_failure, with_used, with_written, checked_from, ready_blocks};
 
 use std::alloc::Global;
 use std::marker::Model;
 use uda_image::{BlockStore, Call, FileTrace, STORE_LIMIT, StoreError, Supposition};
 
-/// Which blocks of an image are ready for the next command, counted from one block on.
+// Which blocks of an image are ready for the next command, counted from one block on.
 #[derive(Clone, Copy, Debug, PartialEq, Eq)]
-pub struct Ready {
-    /// The first block that was made ready.
-    pub first: u32,
-    /// The first block that wasn't used yet. Those before it aren't ready any more.
-    pub next: u32,
-    /// How many were read, with their bytes.
-    pub lent: u32,
-    /// How many are known to be readable.
-    pub checked: u32,
-    /// How many may be written.
-    pub writable: u32,
+struct Ready {
+    // The first block that was made ready.
+    first: u32,
+    // The first block that wasn't used yet. Those before it aren't ready any more.
+    next: u32,
+    // How many were read, with their bytes.
+    lent: u32,
+    // How many are known to be readable.
+    checked: u32,
+    // How many may be written.
+    writable: u32,
 }
 
 /// Why blocks can't be lent.
@@ -69,7 +69,7 @@ impl Model for CalledImage {
 impl Ready {
     // Returns whether `count` blocks from block `n` are among the first `these` ready ones.
     fn has(self, these: u32, n: u32, count: u32) -> bool
-        ensures ready { result ≡ are_ready self these n count }
+        ensures ready { result ≡ are_ready (ready_blocks self) these n count }
         ensures within { result ≡ true → (self.next ≤ n) × (n + count ≤ self.first + these) }
     {
         self.next <= n
@@ -141,7 +141,8 @@ impl CalledImage {
         ensures unchanged { IfErr result (λ _. self.new ≡ self.old) }
         ensures within { IfOk result (λ _. (length from.now % 512 ≡ 0)
             × (first + length from.now / 512 ≤ block_count_of self.old.bytes)) }
-        ensures length { (result ≡ Err LendError.Length) ↔ (can_lend self.old first (length from.now) ≡ false) }
+        ensures length { (result ≡ Err LendError.Length)
+            ↔ (can_lend self.old.ready (block_count_of self.old.bytes) first (length from.now) ≡ false) }
     {
         if !self.can_lend(first, from.len()) {
             return Err(LendError::Length);
@@ -159,7 +160,7 @@ impl CalledImage {
     /// Makes the `count` blocks ready that follow the checked ones: they are readable. Returns false and changes
     /// nothing if the image has fewer blocks.
     pub fn check(&mut self, count: u32) -> bool
-        ensures fits { result ≡ can_check self.old count }
+        ensures fits { result ≡ can_check self.old.ready (block_count_of self.old.bytes) count }
         ensures within { result ≡ true → count ≤ block_count_of self.old.bytes }
         ensures checked { self.new ≡ (if result then with_checked count self.old else self.old) }
     {
@@ -173,7 +174,7 @@ impl CalledImage {
     /// Makes the `count` blocks ready that follow the writable ones: a command may write them. Returns false and
     /// changes nothing if the image has fewer blocks.
     pub fn allow(&mut self, count: u32) -> bool
-        ensures fits { result ≡ can_allow self.old count }
+        ensures fits { result ≡ can_allow self.old.ready (block_count_of self.old.bytes) count }
         ensures within { result ≡ true → count ≤ block_count_of self.old.bytes }
         ensures writable { self.new ≡ (if result then with_writable count self.old else self.old) }
     {
@@ -186,7 +187,7 @@ impl CalledImage {
 
     // Returns whether this many bytes from this block on are the next to lend.
     fn can_lend(&self, first: u32, bytes: usize) -> bool
-        ensures fits { result ≡ can_lend self.now first bytes }
+        ensures fits { result ≡ can_lend self.now.ready (block_count_of self.now.bytes) first bytes }
         ensures within { result ≡ true → (first ≡ self.now.ready.first + self.now.ready.lent) × (bytes % 512 ≡ 0)
             × (self.now.ready.first + self.now.ready.lent + bytes / 512 ≤ block_count_of self.now.bytes) }
     {
@@ -198,7 +199,7 @@ impl CalledImage {
     // Returns whether `count` blocks follow `these` from the first that is ready.
     fn has_room(&self, these: u32, count: u64) -> bool
         requires small { count < 2 ^ 63 }
-        ensures fits { result ≡ has_room self.now these count }
+        ensures fits { result ≡ has_room self.now.ready (block_count_of self.now.bytes) these count }
         ensures within { result ≡ true
             → self.now.ready.first + these + count ≤ block_count_of self.now.bytes }
     {

@@ -5,4 +5,4 @@
 
 mod image;
 
-pub use image::{CalledImage, LendError, Ready};
+pub use image::{CalledImage, LendError};

@@ -1,5 +1,5 @@
 -- Runs over units whose stores are sure.
-use Rattle.std.proofs.Common.{◌≡◌, ◌∙◌, Bool, true, ℕ, ap₂, sym}
+use Rattle.std.proofs.Common.{◌≡◌, ◌∙◌, Bool, true, ℕ, ap₂}
 use Rattle.std.specs.Prelude.{◌&&◌, slice_get}
 use Rattle.std.proofs.lemmas.Bool.{and_parts}
 use Rattle.uda_disk.specs.Units.{Units, AllFaithful, is_faithful, is_infallible}

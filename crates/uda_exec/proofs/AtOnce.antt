@@ -156,7 +156,7 @@ erased_none old n = record {
 pub accessed_more : (old now new : StoreState) (n done piece : ℕ) (to : List ℕ) → ChecksBlocks old done now
     → ReadsBlocks now n piece new to → ChecksBlocks old (done + piece) new
 accessed_more old now new n done piece to before r = record {
-  state_stays = r.state_stays ∙ ap (λ (s : StoreState). record s { failing_call = new.failing_call })
+  state_stays = r.state_stays ∙ ap (λ (s : StoreState). record s { failing_call = new.failing_call; ready = new.ready })
       before.state_stays;
   calls = go_more done piece old.failing_call now.failing_call new.failing_call before.calls r.calls;
 }
@@ -181,7 +181,9 @@ erased_more old now new n done piece from zeros before w =
     ∙ ap (λ (b : List (List ℕ)). put old.blocks n b) (replicate-append-replicate done piece block) in
     record {
       written = w.written ∙ ap (λ (s : StoreState).
-          record s { blocks = put s.blocks (n + done) more; failing_call = new.failing_call }) before.written
-          ∙ ap (λ (b : List (List ℕ)). record old { blocks = b; failing_call = new.failing_call }) both;
+          record s { blocks = put s.blocks (n + done) more; failing_call = new.failing_call; ready = new.ready })
+          before.written
+          ∙ ap (λ (b : List (List ℕ)).
+          record old { blocks = b; failing_call = new.failing_call; ready = new.ready }) both;
       calls = go_more done piece old.failing_call now.failing_call new.failing_call before.calls w.calls;
     }

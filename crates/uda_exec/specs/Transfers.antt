@@ -103,5 +103,6 @@ pub record Erased (old : StoreState) (n count : ℕ) (new : StoreState) : Type 0
   pub written : new ≡ record old {
     blocks = put old.blocks n (replicate count (replicate 512 0));
     failing_call = new.failing_call;
+    ready = new.ready;
   }
   pub calls : CallsSucceed count old.failing_call new.failing_call

@@ -11,7 +11,7 @@ use Rattle.uda_packet.specs.Reading.{read_command}
 use Rattle.uda_port.specs.declared.phase.Phase.{Phase}
 use Rattle.uda_port.specs.Port.{PortState, port_after_ip_read}
 use Rattle.uda_host.specs.Layout.{slots, buffers_start}
-use Rattle.uda_host.specs.HostPortAgreement.{IsAbove, IsSound, unfetched}
+use Rattle.uda_host.specs.HostPortAgreement.{IsAbove, IsServable, unfetched}
 use Rattle.uda_host.specs.Host.{HostState, Posts, IsConsistent}
 use Rattle.uda_host.specs.Slots.{with_command}
 use Rattle.uda_host.specs.HostInvariant.{host_view, HostInvariant}
@@ -57,7 +57,7 @@ buffer_filled host at bytes above = record {
     turned = host.counts.turned;
     credits = host.counts.credits;
   };
-  sound = host.sound;
+  servable = host.servable;
 }
 
 -- a command is posted, and the port begins to poll
@@ -100,7 +100,7 @@ host_posts {h = h} c is host some above legible after_is asked more_is =
           turned = counts.turned;
           credits = omega (arith, ap length left);
         };
-        sound = rw due (All-push IsSound (host_view h).due c host.sound
+        servable = rw due (All-push IsServable (host_view h).due c host.servable
             (record { above = above; legible = legible }));
       };
       so = record { buffers = w.buffers; is = rw due };

@@ -15,7 +15,7 @@ use Rattle.uda_port.specs.Startup.{after_sa_write}
 use Rattle.uda_port.specs.Port.{PortState, port_at_start}
 use Rattle.uda_host.specs.Layout.{rings_word, area_size, slots, memory_size, response_descriptor, command_descriptor, response_packet}
 use Rattle.uda_host.specs.Slots.{RingSlot, command_at, response_at, IsFree, IsOpen, WritesSlot}
-use Rattle.uda_host.specs.HostPortAgreement.{IsSound}
+use Rattle.uda_host.specs.HostPortAgreement.{IsServable}
 use Rattle.uda_host.specs.Starting.{port_running}
 use Rattle.uda_host.specs.HostInvariant.{HostInvariant}
 use Rattle.uda_host.proofs.Slots.{commands_stay, opens_too}
@@ -122,5 +122,5 @@ opened exec start zeroed memory port posted size_then zeroed_is size opens kept 
       };
       agree = record { credits = omega arith; conserved = omega arith; within = omega arith };
       counts = record { fetched = omega arith; turned = omega arith; credits = omega arith };
-      sound = All-nil IsSound;
+      servable = All-nil IsServable;
     })

@@ -45,7 +45,7 @@ use Rattle.uda_port.specs.Port.{PortState, lacks_credit, CreditsAgree, next_gran
 use Rattle.uda_port.specs.Turn.{port_turn_on, port_with_message, ExecutesFor, ExecutesStrictly, delivery_of, FetchesOne, NothingToFetch, FetchRule, GoesOn, Fails, InFetch, InRest, RunningTurn, TurnEffect}
 use Rattle.uda_host.specs.Layout.{slots, memory_size, response_descriptor, command_descriptor, response_packet, command_packet, owner_word, flag_word}
 use Rattle.uda_host.specs.Slots.{RingSlot, slot_at, command_at, response_at, owned, memory_reopened, RingsHold, WritesSlot}
-use Rattle.uda_host.specs.HostPortAgreement.{IsSound, unfetched}
+use Rattle.uda_host.specs.HostPortAgreement.{IsServable, unfetched}
 use Rattle.uda_host.specs.Host.{HostState, outstanding_count, TakesEnd, TurnWithoutEnd, OneFetched, OneDone}
 use Rattle.uda_host.specs.HostInvariant.{host_view, HostInvariant}
 use Rattle.uda_host.specs.declared.host.Host.TheInside.{Inside}
@@ -138,8 +138,8 @@ fetched : {S : Type 0} {h : Inside S} {c : Command} {rest : List Command} (new :
 fetched {h = h} {c} {rest} new after host were agree goes =
     let port = h.port in
     let place = port.commands.place in let pending = port.exec.pending in let takes = goes.takes in
-    let sound : IsSound c = subst IsSound (get_or-append_seam pending c rest c)
-    ((rw were at host.sound) (length pending) c (omega (arith, length-append pending (c ∷ rest)))) in
+    let servable : IsServable c = subst IsServable (get_or-append_seam pending c rest c)
+    ((rw were at host.servable) (length pending) c (omega (arith, length-append pending (c ∷ rest)))) in
     let asked : Result Command Reply → Result GuestCommand Reply = asked_as Basic in
     let read : ℕ → List ℕ → Result GuestCommand Reply = λ size text.
     if nat_eq size 48 then asked (reply_to_bad (read_command text))
@@ -147,7 +147,7 @@ fetched {h = h} {c} {rest} new after host were agree goes =
     let message : message_in port.profile goes.packet ≡ Ok (basic_command c) =
     ap (λ (p : Profile). message_in p goes.packet) host.port.strict
     ∙ ap₂ read (size_read host were takes) (text_read host were takes)
-    ∙ ap (λ (r : Result Command Bad). asked (reply_to_bad r)) sound.legible in
+    ∙ ap (λ (r : Result Command Bad). asked (reply_to_bad r)) servable.legible in
     let untold : command_indicator port h.memory ≡ None =
     ap (λ (p : Profile). indicator_at p (word_below port.responses.base 4) h.memory port.commands)
     host.port.strict in
@@ -194,7 +194,7 @@ fetched {h = h} {c} {rest} new after host were agree goes =
           turned = omega arith;
           credits = omega (arith, ap length were, ap length rest_is);
         };
-        sound = rw due host.sound;
+        servable = rw due host.servable;
       };
       so = OneFetched (record { buffers = w.buffers; is = rw due });
     })
@@ -229,8 +229,8 @@ executed {h = h} new after host none agree goes =
     ∙ append-nil pending in
     let behind : new.exec.pending ++ unfetched h ≡ new.exec.pending =
     ap (λ (cs : List Command). new.exec.pending ++ cs) none ∙ append-nil new.exec.pending in
-    let sound : All IsSound pending = rw before at host.sound in
-    let above = (All-at IsSound pending goes.rest.0 done.executes.command sound taken.stands).above in
+    let servable : All IsServable pending = rw before at host.servable in
+    let above = (All-at IsServable pending goes.rest.0 done.executes.command servable taken.stands).above in
     let rings = host.rings in let counts = host.counts in
     let waits : map strict_end (h.port.waiting ++ one.end ∷ [])
     ≡ map strict_end h.port.waiting ++ done.end ∷ [] =
@@ -256,7 +256,7 @@ executed {h = h} new after host none agree goes =
               omega (arith, length_push h.port.waiting one.end);
           credits = counts.credits;
         };
-        sound = rw (behind, taken.taken) (All-remove IsSound pending goes.rest.0 sound);
+        servable = rw (behind, taken.taken) (All-remove IsServable pending goes.rest.0 servable);
       };
       so = OneDone (record {
         place = goes.rest.0;
@@ -399,7 +399,7 @@ module _ {S : Type 0} {h : Inside S} (host : HostInvariant h) (new : PortState) 
             turned = omega (arith, ap length one.first);
             credits = omega arith;
           };
-          sound = host.sound;
+          servable = host.servable;
         };
         so = record {
           none_due = ap₂ (λ (xs ys : List Command). xs ++ ys) lines.rest.0 none_left;

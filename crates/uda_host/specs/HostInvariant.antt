@@ -5,7 +5,7 @@ use Rattle.uda_port.specs.declared.phase.Phase.TheVariants.{Running}
 use Rattle.uda_port.specs.declared.profile.Profile.TheVariants.{Strict}
 use Rattle.uda_port.specs.Port.{PortState, CreditsAgree}
 use Rattle.uda_host.specs.Slots.{RingsHold}
-use Rattle.uda_host.specs.HostPortAgreement.{IsSound, unfetched, RingsAgree, CountsAgree}
+use Rattle.uda_host.specs.HostPortAgreement.{IsServable, unfetched, RingsAgree, CountsAgree}
 use Rattle.uda_host.specs.Host.{HostState}
 use Rattle.uda_host.specs.declared.host.Host.TheInside.{Inside}
 
@@ -30,7 +30,7 @@ pub record RunsStrict (port : PortState) : Type 0 where
   pub runs : port.phase ≡ Running
 
 -- The port runs, and polls while a command is unfetched. Each side reads what the other wrote. Rings, credits
--- and counts agree. Each posted command that isn't executed yet is sound.
+-- and counts agree. Each posted command that isn't executed yet is servable.
 pub record HostInvariant {S : Type 0} (h : Inside S) : Type 0 where
   pub port : RunsStrict h.port
   pub looks : 0 < length (unfetched h) → h.port.polling ≡ true
@@ -38,4 +38,4 @@ pub record HostInvariant {S : Type 0} (h : Inside S) : Type 0 where
   pub written : RingsHold h.memory h.port.commands.place (unfetched h)
   pub agree : CreditsAgree h.port
   pub counts : CountsAgree h
-  pub sound : All IsSound (host_view h).due
+  pub servable : All IsServable (host_view h).due

@@ -15,7 +15,7 @@ abbrev pub IsAbove : Command → Type 0
 IsAbove c = Overlap (buffer_start c.op) (buffer_length c.op) 0 buffers_start → ⊥
 
 -- a command that the port decodes as it was written, and that changes no ring or packet
-pub record IsSound (c : Command) : Type 0 where
+pub record IsServable (c : Command) : Type 0 where
   pub above : IsAbove c
   pub legible : read_command (written_command c) ≡ Ok c
 

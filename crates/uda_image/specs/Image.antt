@@ -34,6 +34,7 @@ image_state bytes = record {
   never_fails = record { reads = true; writes = true };
   failures = 0;
   failing_call = None;
+  ready = None;
 }
 
 -- a block of which a write stopped in the middle: its first 256 bytes are new, and its last 256 old
@@ -63,13 +64,14 @@ failing_state image = record {
   never_fails = record { reads = false; writes = false };
   failures = failures_by image.left;
   failing_call = Some image.left;
+  ready = None;
 }
 
 -- A file that is open as an image: its number of blocks when it was opened, whether it was opened for
 -- writing, and whether it was written since it was opened or last synced. Of the file itself: the bytes that it
--- holds, if they are known, whether no call on these fails, and whether it isn't synced. Then what is supposed of it:
--- the bytes that it held when it was opened, the blocks that failed writes leave, and whether it is known that these
--- were its bytes and that no call fails. Last the calls on it since it was opened, the newest first
+-- holds, if they are known, whether no read and no write of these fails, and whether it isn't synced. Then what is
+-- supposed of it: the bytes that it held when it was opened, the blocks that failed writes leave, and whether it is
+-- known that these were its bytes and that no call fails. Last the calls on it since it was opened, the newest first
 pub record OpenImage : Type 0 where
   pub size : ℕ
   pub writable : Bool
@@ -107,6 +109,7 @@ file_state image = record {
   never_fails = record { reads = image.known; writes = image.writable && image.known };
   failures = (holding image).failures;
   failing_call = None;
+  ready = None;
 }
 
 -- if the bytes of the file are known: the image has been honest, and holds those bytes

@@ -10,9 +10,19 @@ pub record NeverFails : Type 0 where
   pub reads : Bool
   pub writes : Bool
 
+-- The blocks that a program made ready for the calls on its image, counted from one block on: the first of them, the
+-- first that wasn't used yet, how many were read, how many are known to be readable, and how many may be written.
+-- No effect of a call says which are ready afterwards: that is the image's own
+pub record ReadyBlocks : Type 0 where
+  pub first : ℕ
+  pub next : ℕ
+  pub lent : ℕ
+  pub checked : ℕ
+  pub writable : ℕ
+
 -- a store: its blocks, their number, whether it is faithful, whether it has been honest until now, which calls
 -- never fail, how many of its calls have failed, and, if it is known, which call will fail: 1 is the next one,
--- and 0 means none
+-- and 0 means none. Last the blocks that are ready, if a program makes them ready
 pub record StoreState : Type 0 where
   pub blocks : List (List ℕ)
   pub size : ℕ
@@ -21,6 +31,7 @@ pub record StoreState : Type 0 where
   pub never_fails : NeverFails
   pub failures : ℕ
   pub failing_call : Option ℕ
+  pub ready : Option ReadyBlocks
 
 -- a sound store: it is faithful, or it has been honest until now
 abbrev pub is_sound : StoreState → Bool
@@ -59,15 +70,16 @@ pub record KeepsAttributes (old new : StoreState) : Type 0 where
   pub never_fails_stays : new.never_fails ≡ old.never_fails
 
 -- a read of block n that succeeded: the bytes are the block's, and nothing changed except that one call was
--- made
+-- made, and perhaps which blocks are ready
 pub record ReadsBlock (old : StoreState) (n : ℕ) (new : StoreState) (to : List ℕ) : Type 0 where
   pub value : slice_get old.blocks n ≡ Some to
-  pub state_stays : new ≡ record old { failing_call = new.failing_call }
+  pub state_stays : new ≡ record old { failing_call = new.failing_call; ready = new.ready }
   pub calls : CallsSucceed 1 old.failing_call new.failing_call
 
--- a read that failed: one more failure, nothing else changed, and nothing is known of the bytes
+-- a read that failed: one more failure, nothing else changed except perhaps which blocks are ready, and nothing
+-- is known of the bytes
 pub record FailsToRead (old new : StoreState) : Type 0 where
-  pub counted : new ≡ record old { failures = old.failures + 1; failing_call = new.failing_call }
+  pub counted : new ≡ record old { failures = old.failures + 1; failing_call = new.failing_call; ready = new.ready }
   pub calls : FailsAtCall 0 old.failing_call new.failing_call
 
 -- the effect of a read of block n, by its result
@@ -77,10 +89,12 @@ Reads old n new to result =
 
 -- a write of block n that succeeded: block n holds those bytes, and no other block changed
 pub record WritesBlock (old : StoreState) (n : ℕ) (new : StoreState) (from : List ℕ) : Type 0 where
-  pub written : new ≡ record old { blocks = slice_set old.blocks n from; failing_call = new.failing_call }
+  pub written : new
+      ≡ record old { blocks = slice_set old.blocks n from; failing_call = new.failing_call; ready = new.ready }
   pub calls : CallsSucceed 1 old.failing_call new.failing_call
 
--- a write of block n that failed: one more failure, block n holds some 512 bytes, and nothing else changed
+-- a write of block n that failed: one more failure, block n holds some 512 bytes, and nothing else changed except
+-- perhaps which blocks are ready
 pub record FailsToWrite (old : StoreState) (n : ℕ) (new : StoreState) : Type 0 where
   pub left : List ℕ
   pub whole : length left ≡ 512
@@ -88,6 +102,7 @@ pub record FailsToWrite (old : StoreState) (n : ℕ) (new : StoreState) : Type 0
     blocks = slice_set old.blocks n left;
     failures = old.failures + 1;
     failing_call = new.failing_call;
+    ready = new.ready;
   }
   pub calls : FailsAtCall 0 old.failing_call new.failing_call
 

@@ -24,9 +24,9 @@ use std::{fmt, fs};
 /// An image in a file: the logical blocks of a unit, one after another (MSCP Basic Disk Functions Manual:
 /// logical blocks).
 ///
-/// Its size is that of the file when it is opened. It isn't faithful, since other programs may change the
-/// file. A read or write fails if the system fails it or ends it early, as past the end of a file that was
-/// shortened.
+/// Its size is that of the file when it is opened. It isn't faithful unless [`FileImage::known`] made it, since other
+/// programs may change the file. A read or write fails if the system fails it or ends it early, as past the end of a
+/// file that was shortened.
 ///
 /// An image that isn't writable is opened for reading only, so no write can reach its file. A write to it
 /// fails.
@@ -35,11 +35,11 @@ use std::{fmt, fs};
 /// writable image holds it exclusively, and images for reading share it.
 ///
 /// Contracts see its size in blocks, whether it is writable, and whether it was written since it was opened
-/// or last synced. They also see the calls on it since it was opened, and what came of them, except for writes of several
-/// blocks that were declined. From these follows whether the image has been honest. Each read returned the bytes
-/// that were last written there, or else those that the file held when it was opened. After a failed write that
-/// is the block that it left. No read of several blocks that was declined changed its buffer. If the bytes of the
-/// file are known, a call keeps an image honest that holds them.
+/// or last synced. Of its file they see what [`RawFile`] shows. They also see the calls on it since it was opened, and
+/// what came of them, except for writes of several blocks that were declined. From these follows whether the image has
+/// been honest. Each read returned the bytes that were last written there, or else those that the file held when it was
+/// opened. After a failed write that is the block that it left. No read of several blocks that was declined changed its
+/// buffer. If the bytes of the file are known, a call that is done keeps an image honest that holds them.
 ///
 /// What the file held when it was opened, and what a write that fails leaves in a block, is supposed
 /// ([`Supposition`]). A caller who names no supposition has contracts that hold for each.

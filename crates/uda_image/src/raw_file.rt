@@ -8,9 +8,9 @@ use std::os::unix::fs::FileExt;
 
 /// A file that holds the bytes of an image, each at its offset.
 ///
-/// Contracts see its `content` if the bytes are known, and whether each call within these bytes is done (`never_fails`).
-/// They see whether it is `unsynced`: only a sync ends that. Of a file of the system they see none of this, since other
-/// programs may change its bytes, and each call may fail.
+/// Contracts see its `content` if the bytes are known, and whether each read and write within these bytes is done
+/// (`never_fails`). They see whether it is `unsynced`: only a sync ends that. Of a file of the system they see none of
+/// this, since other programs may change its bytes, and each call may fail.
 pub trait RawFile {
     ghost content: { Self → Option (List ℕ) };
 
@@ -32,6 +32,7 @@ pub trait RawFile {
     fn write_all(&mut self, from: &[u8], offset: u64) -> io::Result<()>
         ensures unknown { content self.old ≡ None → content self.new ≡ None }
         ensures never_fails_stays { never_fails self.new ≡ never_fails self.old }
+        ensures stays_unsynced { unsynced self.old ≡ true → unsynced self.new ≡ true }
         ensures writes { WritesAt (content self.old) offset from.now (content self.new) (result ≡ Ok tt) }
         ensures infallible { never_fails self.old ≡ true
             → IsDoneAt (content self.old) offset (length from.now) (result ≡ Ok tt) };
@@ -50,6 +51,7 @@ pub trait RawFile {
     fn write_once(&mut self, from: &[u8], offset: u64) -> io::Result<usize>
         ensures unknown { content self.old ≡ None → content self.new ≡ None }
         ensures never_fails_stays { never_fails self.new ≡ never_fails self.old }
+        ensures stays_unsynced { unsynced self.old ≡ true → unsynced self.new ≡ true }
         ensures writes { WritesAt (content self.old) offset from.now (content self.new)
             (result ≡ Ok (length from.now)) }
         ensures infallible { never_fails self.old ≡ true

@@ -54,7 +54,7 @@ use Rattle.uda_port.specs.Message.{message_in, flags_kept}
 use Rattle.uda_port.specs.Possible.{has_phase, CanDie}
 use Rattle.uda_port.specs.Startup.{failed_port}
 use Rattle.uda_port.specs.Turn.{ExecutesFor, TurnEffect, RunningTurn, FetchRule, DeliverRule, FetchesOne, TakesPacket, NothingToFetch, NothingToDeliver, ExecutesOne, DeliversOne, NotifiesOne, Fails, InFetch, InRest, Dies, Stopped, may_fetch, fetching_of, port_turn_on, port_not_polling, port_with_message}
-use Rattle.uda_port.specs.MemoryUse.{descriptor_ranges, packet_range, indicator_range, returned_range, NONE_WRITTEN, no_use, has_text, has_room, written_by_fetch, fetch_use, looked_up, command_use, written_by_delivery, delivery_use, message_use, later_use, next_size, use_without_fetch, use_found, use_running, use_in, use_of, fate_at, fate_in, fate_of, CanFail, EffectBy, EffectWithout, written_by_fate, written_of, Agrees, AgreesInDescriptors, IsLocal, HasSoundRings}
+use Rattle.uda_port.specs.MemoryUse.{descriptor_ranges, packet_range, indicator_range, returned_range, NONE_WRITTEN, no_use, has_text, has_room, written_by_fetch, fetch_use, looked_up, command_use, written_by_delivery, delivery_use, message_use, later_use, next_size, use_without_fetch, use_found, use_running, use_in, use_of, fate_at, fate_in, fate_of, CanFail, EffectBy, EffectWithout, written_by_fate, written_of, Agrees, AgreesInDescriptors, IsLocal, HasValidRings}
 use Rattle.uda_port.proofs.PortSteps.{reads_no_ring, reads_no_packet}
 use Rattle.uda_port.proofs.RingLaws.{takes_first}
 use Rattle.uda_port.proofs.TurnLaws.{executes_for, attention_first, first_text}
@@ -427,7 +427,7 @@ below_at Strict indicator memory r base h = tt
 below_at (Compatible identity) indicator memory r base h =
     below_if indicator (is_ring_transition memory r) base h
 
-command_below : (port : PortState) (memory : List ℕ) → HasSoundRings port
+command_below : (port : PortState) (memory : List ℕ) → HasValidRings port
     → IsBelow (command_indicator port memory) port.commands.base
 command_below port memory sound =
     below_at port.profile (word_below port.responses.base 4) memory port.commands port.commands.base
@@ -482,7 +482,7 @@ port_fetched old new p indicator = record (port_with_message old (message_in old
 }
 
 fetched_local : (old : PortState) (memory : List ℕ) (j : ℕ) (new : PortState) (memory_after : List ℕ)
-    → HasSoundRings old → FetchesOne old memory new memory_after
+    → HasValidRings old → FetchesOne old memory new memory_after
     → Local old (use_running old memory j (may_fetch old)) memory memory_after
     (λ other after. FetchesOne old other new after)
 fetched_local old memory j new memory_after sound f =
@@ -969,7 +969,7 @@ weaker port uses memory memory_after Goes There follows there = record {
 
 -- one turn: the port before and after it, its memory, and the command at index j
 module _ (old : PortState) (memory : List ℕ) (j : ℕ) (new : PortState) (memory_after : List ℕ)
-    (sound : HasSoundRings old) where
+    (sound : HasValidRings old) where
   abbrev on : PortState
   on = port_turn_on old
 
@@ -979,7 +979,7 @@ module _ (old : PortState) (memory : List ℕ) (j : ℕ) (new : PortState) (memo
   abbrev LocalRunning : (List ℕ → List ℕ → Type 0) → Type 0
   LocalRunning Goes = Local old (use_running old memory j (may_fetch old)) memory memory_after Goes
 
-  sound_on : HasSoundRings on
+  sound_on : HasValidRings on
   sound_on =
       record { place = sound.place; even = sound.even; ordered = sound.ordered; strict = sound.strict }
 
@@ -1429,7 +1429,7 @@ module _ (missing : Missing) (j : ℕ) (old : PortState) (memory : List ℕ) (tu
         (sym (carried_none memory_after other)) (there fate other other is s (effect other));
   }
 
-  pub is_local : (fate : Fate) → HasSoundRings old → fate_of missing old memory ≡ fate
+  pub is_local : (fate : Fate) → HasValidRings old → fate_of missing old memory ≡ fate
       → EffectBy fate j (old, memory) turn (new, memory_after)
       → IsLocal missing j (old, memory)
       (record { turn = turn; written = written_by_fate fate (use_of old memory j).written }) (new, memory_after)

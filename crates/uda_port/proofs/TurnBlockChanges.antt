@@ -25,7 +25,7 @@ use Rattle.uda_port.specs.declared.turn_at.Fate.{Fate}
 use Rattle.uda_port.specs.declared.turn_at.Fate.TheVariants.{Usual, FailsInFetch, FailsLater, WithoutBuffer}
 use Rattle.uda_port.specs.AtOnce.{exec_for, exec_at_once}
 use Rattle.uda_port.specs.BlockUse.{memory_by, memory_executed, blocks_in, written_in, blocks_of, block_bytes_of}
-use Rattle.uda_port.specs.MemoryUse.{use_of, fate_of, TurnsAt, EffectBy, EffectWithout, HasSoundRings}
+use Rattle.uda_port.specs.MemoryUse.{use_of, fate_of, TurnsAt, EffectBy, EffectWithout, HasValidRings}
 use Rattle.uda_port.specs.Message.{message_in}
 use Rattle.uda_port.specs.Port.{PortState}
 use Rattle.uda_port.specs.Ring.{is_owned, next_descriptor}
@@ -122,7 +122,7 @@ module _ (old : PortState) (memory : List ℕ) (nothing : NothingToFetch old mem
 -- ---- a turn
 
 module _ (old : PortState) (memory : List ℕ) (j : ℕ) (new : PortState) (memory_after : List ℕ)
-    (sound : HasSoundRings old) where
+    (sound : HasValidRings old) where
   abbrev on : PortState
   on = port_turn_on old
 
@@ -242,7 +242,7 @@ module _ (old : PortState) (memory : List ℕ) (j : ℕ) (new : PortState) (memo
       (executed [] [] it.0.executes)
 
 pub turn_changes : (missing : Missing) (place : ℕ) (old : PortState) (memory : List ℕ) (turn : Turn) (new : PortState)
-    (memory_after : List ℕ) → HasSoundRings old
+    (memory_after : List ℕ) → HasValidRings old
     → EffectWithout missing place (old, memory) turn (new, memory_after)
     → ChangesOnly (blocks_of missing old memory place) (block_bytes_of missing old memory place) old.exec.units
     new.exec.units

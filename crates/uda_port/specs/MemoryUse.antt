@@ -269,7 +269,7 @@ ExecutesChosen choice turn before after =
 -- What the law needs, and each port keeps. The index of the next command descriptor is within its ring. The response
 -- ring is at an even address, and the command ring isn't below it. So the interrupt indicator that a fetch sets is a
 -- word below both rings, and no part of a descriptor. No command of a strict port has an additional operation.
-pub record HasSoundRings (port : PortState) : Type 0 where
+pub record HasValidRings (port : PortState) : Type 0 where
   pub place : port.commands.place < port.commands.count
   pub even : port.responses.base % 2 ≡ 0
   pub ordered : port.responses.base ≤ port.commands.base

@@ -36,7 +36,7 @@ impl Area {
     pub(crate) fn of_words(profile: Profile, first: u16, second: u16, third: u16) -> Area
         requires high { profile ≡ Strict → third < 2 ^ 15 }
         ensures area { result ≡ area_of profile first second third }
-        ensures sound { IsArea result }
+        ensures valid { IsArea result }
         ensures below { 4 ≤ result.below }
         ensures base { refuses_third profile third ≡ false → result.base < addresses_by profile }
     {
@@ -60,7 +60,7 @@ impl Area {
 
     /// Returns whether the whole area is in memory.
     pub(crate) fn is_in(&self, memory: &[u8]) -> bool
-        requires sound { IsArea self.now }
+        requires valid { IsArea self.now }
         ensures area { result ≡ has_area self.now (length memory.now) }
         ensures above { IsTrue result → self.now.below ≤ self.now.base }
         ensures within { IsTrue result → self.now.base + rings_size self.now ≤ length memory.now }
@@ -70,7 +70,7 @@ impl Area {
 
     /// Returns the range of the area, which is in memory.
     pub(crate) fn range(&self) -> ByteRange
-        requires sound { IsArea self.now }
+        requires valid { IsArea self.now }
         requires above { self.now.below ≤ self.now.base }
         ensures range { result ≡ area_range self.now }
     {
@@ -82,7 +82,7 @@ impl Area {
 
     /// Zeroes the area: the bytes below the ring base that belong to it, and both rings.
     pub(crate) fn zero(&self, memory: &mut [u8])
-        requires sound { IsArea self.now }
+        requires valid { IsArea self.now }
         requires above { self.now.below ≤ self.now.base }
         requires within { self.now.base + rings_size self.now ≤ length memory.old }
         ensures { memory.new ≡ memory_with_area self.now memory.old }
@@ -92,7 +92,7 @@ impl Area {
 
     /// Returns the response ring, which begins at the ring base.
     pub(crate) fn response_ring(&self) -> Ring
-        requires sound { IsArea self.now }
+        requires valid { IsArea self.now }
         ensures ring { result ≡ record { base = self.now.base; count = self.now.responses; place = 0 } }
     {
         Ring::placed(self.base, self.responses)
@@ -100,7 +100,7 @@ impl Area {
 
     /// Returns the command ring, which follows the response ring.
     pub(crate) fn command_ring(&self) -> Ring
-        requires sound { IsArea self.now }
+        requires valid { IsArea self.now }
         ensures ring { result ≡ record {
           base = self.now.base + 4 * self.now.responses;
           count = self.now.commands;
@@ -113,7 +113,7 @@ impl Area {
 
     // Returns the number of bytes of both rings.
     fn size(&self) -> u32
-        requires sound { IsArea self.now }
+        requires valid { IsArea self.now }
         ensures size { result ≡ rings_size self.now }
         ensures within { result ≤ 1024 }
     {

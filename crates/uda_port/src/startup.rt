@@ -161,7 +161,7 @@ impl<S: BlockStore> Port<S> {
 
     // Sets the rings from the area, and enters the phase that follows the third word.
     fn set_rings(&mut self, area: Area, word: u16)
-        requires sound { IsArea area }
+        requires valid { IsArea area }
         requires above { 4 ≤ area.base }
         requires within { area.base < addresses_by self.old.profile }
         requires step { is_step_3 self.old.phase ≡ true }

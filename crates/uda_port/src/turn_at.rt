@@ -13,7 +13,7 @@ ghost use Rattle.uda_port.specs.Trace.{Reports, Traces, turn_of};
 ghost use Rattle.uda_port.specs.Turn.{may_fetch, port_turn_on, port_not_polling};
 ghost use Rattle.uda_port.specs.MemoryUse.{use_of, fate_at, fate_running, fate_in, FailsUnread, ExecutesWithout};
 ghost use Rattle.uda_port.specs.MemoryUse.{EffectBy, EffectWithout, written_by_fate, IsLocal, IsPlace};
-ghost use Rattle.uda_port.specs.MemoryUse.{HasSoundRings, CanFail, Agrees, written_of};
+ghost use Rattle.uda_port.specs.MemoryUse.{HasValidRings, CanFail, Agrees, written_of};
 ghost use Rattle.uda_port.specs.Possible.{CanDie};
 ghost use Rattle.uda_port.specs.declared.memory_use.Access.TheVariants.{Execute};
 ghost use Rattle.uda_port.specs.declared.phase.Phase.TheVariants.{Running};
@@ -129,7 +129,7 @@ impl<S: BlockStore> Port<S> {
             (block_bytes_of missing self.old memory.old place) self.old.exec.units self.new.exec.units }
         ensures reports { Reports result.turn trace.new self.old self.new }
     {
-        self.rings_are_sound();
+        self.rings_are_valid();
         let uses = self.memory_use(memory, place);
         let fate = self.fate(missing, uses.access);
         let plan = TurnPlan {
@@ -145,8 +145,8 @@ impl<S: BlockStore> Port<S> {
     }
 
     // States what is always true of the rings, and of the operations of a strict port.
-    fn rings_are_sound(&self)
-        ensures sound { HasSoundRings self.now }
+    fn rings_are_valid(&self)
+        ensures valid { HasValidRings self.now }
     {
         let _address = self.responses.address();
         let _place = self.commands.place();

@@ -1,4 +1,6 @@
-use Rattle.std.proofs.Common.{◌∙◌}
+use Rattle.std.proofs.Common.{◌∙◌, ap, arith}
+use Rattle.uda50_copy.specs.Record.{RecordState}
+use Rattle.uda50_copy.specs.Reports.{lost_count}
 use Rattle.uda50_copy.proofs.Ranges.{copies_noted, copies_noted_all}
 use Rattle.uda50_copy.proofs.range.copy_given.Goals as goal
 
@@ -31,3 +33,30 @@ returns-in-Ok-clause-copies_all g c = λ clean unfinished.
     (c.begin.ensures.as_reported (c.begin.ensures.broken ∙ clean))
     (rw c.check.ensures.same at (c.check.ensures.as_reported now)) c.copy-copied.ensures.copies_as_told
     c.in-Ok.ensures.tells_end unfinished)
+
+pub returns-in_err-check-clause-loses_failed : goal.returns-in_err-check-clause-loses_failed
+returns-in_err-check-clause-loses_failed g c =
+    λ sound. omega (
+      arith,
+      c.copy-copied.ensures.loses_failed sound,
+      ap lost_count c.begin.ensures.reports,
+      ap (λ (r : RecordState). lost_count r.reports) c.check.ensures.same,
+    )
+
+pub returns-in-Ok-clause-loses_failed : goal.returns-in-Ok-clause-loses_failed
+returns-in-Ok-clause-loses_failed g c =
+    λ sound. omega (
+      arith,
+      c.copy-copied.ensures.loses_failed sound,
+      ap lost_count c.begin.ensures.reports,
+      ap (λ (r : RecordState). lost_count r.reports) c.check.ensures.same,
+    )
+
+pub returns-in-Err-clause-loses_failed : goal.returns-in-Err-clause-loses_failed
+returns-in-Err-clause-loses_failed g c =
+    λ sound. omega (
+      arith,
+      c.copy-copied.ensures.loses_failed sound,
+      ap lost_count c.begin.ensures.reports,
+      ap (λ (r : RecordState). lost_count r.reports) c.check.ensures.same,
+    )

@@ -1,5 +1,7 @@
 use Rattle.std.proofs.Common.{ℕ, ◌≤◌, ◌<◌, ◌∙◌, arith}
+use Rattle.uda50_copy.specs.Copy.{units_in}
 use Rattle.uda50_copy.proofs.Ranges.{skip_part, skip_in_part, skipped_then, changes_only_of, copies_wider, unfinished_rest, copies_all_to}
+use Rattle.uda50_copy.proofs.Losses.{skip_loses}
 use Rattle.uda50_copy.proofs.range.copy_next.Goals as goal
 
 pub returns-in_err-skip-clause-copies : goal.returns-in_err-skip-clause-copies
@@ -100,3 +102,27 @@ returns-clause-copies_all g c = λ clean unfinished.
     c.in_ok-skip.ensures.skipped c.in_ok-skip.ensures.reports found.zeros)
     two.0 in
     (made.0, made.1 ∙ two.1 ∙ omega (arith, found.later, found.ordered))
+
+pub returns-in_err-skip-clause-loses_failed : goal.returns-in_err-skip-clause-loses_failed
+returns-in_err-skip-clause-loses_failed g c = skip_loses (units_in c.args.copier.now) c.args.notes.now c.skip.new.self _ _ c.skip.ensures.in_part
+
+pub returns-then-end-start-clause-loses_failed : goal.returns-then-end-start-clause-loses_failed
+returns-then-end-start-clause-loses_failed g c = skip_loses (units_in c.args.copier.now) c.args.notes.now c.skip.new.self _ _ c.skip.ensures.in_part
+
+pub returns-in_err-copy_given-clause-loses_failed : goal.returns-in_err-copy_given-clause-loses_failed
+returns-in_err-copy_given-clause-loses_failed g c =
+    λ sound. omega (
+      arith,
+      skip_loses (units_in c.args.copier.now) c.args.notes.now c.skip.new.self _ _ c.skip.ensures.in_part
+          (λ u. c.copy_given.ensures.changes_only.stays_sound.sound_before u (sound u)),
+      c.copy_given.ensures.loses_failed sound,
+    )
+
+pub returns-clause-loses_failed : goal.returns-clause-loses_failed
+returns-clause-loses_failed g c =
+    λ sound. omega (
+      arith,
+      skip_loses (units_in c.args.copier.now) c.args.notes.now c.skip.new.self _ _ c.skip.ensures.in_part
+          (λ u. c.copy_given.ensures.changes_only.stays_sound.sound_before u (sound u)),
+      c.copy_given.ensures.loses_failed sound,
+    )

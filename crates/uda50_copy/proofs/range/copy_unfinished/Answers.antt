@@ -19,6 +19,7 @@ loop-next-init g c = record {
   noted = λ clean. clean;
   changes = changes_only_none _ _ _ _ (changes_no_block_none _);
   copies = λ clean. copies_nothing _ _ _ c.args.notes.now _ (omega arith);
+  loses = λ sound. omega arith;
 }
 
 pub loop-next-preserved : goal.loop-next-preserved
@@ -40,6 +41,11 @@ loop-next-preserved g c =
           kept.begun next.later.0 past kept.changes step.changes_before (kept.copies clean) next.finished two.0
           step.zeros_stay in
           (made.0, made.1 ∙ two.1 ∙ omega (arith, kept.begun, next.later.0, past));
+      loses = λ sound. omega (
+        arith,
+        kept.loses (λ u. step.changes_before.stays_sound.sound_before u (sound u)),
+        step.loses_failed sound,
+      );
     }
 
 pub returns-in_err-at-clause-changes_only : goal.returns-in_err-at-clause-changes_only
@@ -92,3 +98,17 @@ returns-clause-finished_only g c = λ clean now.
 
 pub returns-clause-none_untried : goal.returns-clause-none_untried
 returns-clause-none_untried g c = λ clean. none_untried_of _ _ _ _ (returns-clause-copies_all g c clean)
+
+pub returns-then-last-blocks-clause-loses_failed : goal.returns-then-last-blocks-clause-loses_failed
+returns-then-last-blocks-clause-loses_failed g c = λ sound. omega arith
+
+pub returns-in_err-at-clause-loses_failed : goal.returns-in_err-at-clause-loses_failed
+returns-in_err-at-clause-loses_failed g c =
+    λ sound. omega (
+      arith,
+      c.loop-next.invariant.loses (λ u. c.copy_next.ensures.changes_only.stays_sound.sound_before u (sound u)),
+      c.copy_next.ensures.loses_failed sound,
+    )
+
+pub returns-clause-loses_failed : goal.returns-clause-loses_failed
+returns-clause-loses_failed g c = c.loop-next.invariant.loses

@@ -1,6 +1,7 @@
 use Rattle.std.proofs.Common.{◌≡◌, ◌-◌, ◌≤◌, false}
 use Rattle.uda50_copy.specs.Copy.{units_in}
 use Rattle.uda50_copy.specs.Changes.{ChangesWithin}
+use Rattle.uda50_copy.specs.Reports.{stage_of, LosesFailed}
 use Rattle.uda50_copy.specs.Range.{CopiesAllUnfinished, states_of}
 use Rattle.uda50_copy.proofs.range.copy_unfinished.Given as goal
 
@@ -13,6 +14,7 @@ invariant-loop-next g l = record {
   copies : l.fn.notes.broken ≡ false
       → CopiesAllUnfinished l.fn.blocks.start l.at (states_of l.fn.copier l.copier l.fn.notes l.notes)
       (g.Z.ZeroBlocks.zeros l.zeros);
+  loses : LosesFailed (stage_of l.fn.copier l.fn.notes.reports) (stage_of l.copier l.notes.reports);
 }
 
 abbrev pub decreases-loop-next : goal.decreases-loop-next

@@ -1,4 +1,4 @@
-use Rattle.std.proofs.Common.{refl}
+use Rattle.std.proofs.Common.{refl, arith}
 use Rattle.std.proofs.lemmas.Result.{on_ok_weaker}
 use Rattle.uda50_copy.proofs.Pieces.{copies_by}
 use Rattle.uda50_copy.proofs.Gathered.{changes_only_none, run_changes_only, runs_unwritten, runs_written, runs_all}
@@ -31,3 +31,15 @@ returns-clause-runs_all g c =
     let read = c.in_ok-writes.ensures in
     on_ok_weaker c.write.result (λ holds. runs_all _ _ _ _ _ _ refl read.changes_no_block read.adds_all_but
     c.write.ensures.changes_written holds) c.write.ensures.holds_written
+
+pub returns-in_err-writes-clause-loses_failed : goal.returns-in_err-writes-clause-loses_failed
+returns-in_err-writes-clause-loses_failed g c = c.read_run.ensures.loses_failed
+
+pub returns-clause-loses_failed : goal.returns-clause-loses_failed
+returns-clause-loses_failed g c =
+    λ sound. omega (
+      arith,
+      c.in_ok-writes.ensures.loses_failed
+          (λ u. c.write.ensures.changes_written.stays_sound.sound_before u (sound u)),
+      c.write.ensures.keeps_failures sound,
+    )

@@ -7,6 +7,7 @@ use Rattle.uda50_copy.specs.Copy.{CopierState, ChangesNoBlock, EachReturnsBlocks
 use Rattle.uda50_copy.proofs.Pieces.{answer_at, below, all_came, piece_at, returned_at, reads_end, gathering_next, changes_no_block_none, changes_no_block_both}
 use Rattle.uda50_copy.proofs.Told.{tells_lost_none, tells_lost_both, tells_lost_wider}
 use Rattle.uda50_copy.proofs.Gathered.{adds_none, adds_next, adds_to}
+use Rattle.uda50_copy.specs.Reports.{KeepsFailures}
 use Rattle.uda50_copy.proofs.copier.Copier.read_run.Goals as goal
 
 pub run_reads-requires : goal.run_reads-requires
@@ -19,7 +20,17 @@ loop-answer-init g c = (
     c.in_ok-answer-items.ensures.skips_lost ∙ ap (λ (s : CopierState). s.skips_lost) c.self.view_is,
     (
       changes_no_block_none _,
-      (λ all whole sound start is. rw c.in_ok-writes.ensures.items is, rw c.in_ok-writes.ensures.items (adds_none _ _ _ _)),
+      (
+        λ all whole sound start is. rw c.in_ok-writes.ensures.items is,
+        (
+          rw c.in_ok-writes.ensures.items (adds_none _ _ _ _),
+          λ sound. omega (
+            arith,
+            subst (λ (s : CopierState). KeepsFailures (units_in s) (units_in c.run_reads.new.self)) c.self.view_is
+                c.in_ok-answer-items.ensures.keeps_failures sound,
+          ),
+        ),
+      ),
     ),
   ),
 )
@@ -85,12 +96,19 @@ loop-answer-preserved g c =
                 place.count)
                 (rw loop.invariant.1.0 at taken.adds)
                 loop.invariant.1.1.1.0,
-            adds_next c.args.self.now.skips_lost from loop.lbn c.min-stop.result _ _ _ told (units_in c.args.self.now)
-                (units_in c.run_reads.new.self) (units_in loop.self) (units_in c.take_piece.new.self)
-                (omega (arith, place.at)) (omega (arith, place.some)) ran loop.invariant.1.1.0 taken.changes_no_block
-                (λ whole sound. returned_at from to 32 requests (answer_values items) (units_in c.args.self.now) k loop.lbn
-                (c.min-stop.result - loop.lbn) told reads (returns whole sound) within tells place.at place.count)
-                loop.invariant.1.1.1.1 (rw loop.invariant.1.0 at taken.adds_all_but),
+            (
+              adds_next c.args.self.now.skips_lost from loop.lbn c.min-stop.result _ _ _ told (units_in c.args.self.now)
+                  (units_in c.run_reads.new.self) (units_in loop.self) (units_in c.take_piece.new.self)
+                  (omega (arith, place.at)) (omega (arith, place.some)) ran loop.invariant.1.1.0 taken.changes_no_block
+                  (λ whole sound. returned_at from to 32 requests (answer_values items) (units_in c.args.self.now) k loop.lbn
+                  (c.min-stop.result - loop.lbn) told reads (returns whole sound) within tells place.at place.count)
+                  loop.invariant.1.1.1.1.0 (rw loop.invariant.1.0 at taken.adds_all_but),
+              λ sound. omega (
+                arith,
+                loop.invariant.1.1.1.1.1 (λ u. taken.changes_no_block.stays_sound.sound_before u (sound u)),
+                taken.loses_failed sound,
+              ),
+            ),
           ),
         ),
       ),
@@ -153,7 +171,7 @@ returns-in_err-take_piece-clause-tells g c =
     (c.min-stop.ensures ∙ ap (min to) c.saturating_add.ensures) fits in
     tells_lost_wider _ from c.min-stop.result to _ _ (omega (arith, c.min-stop.ensures))
     (tells_lost_both _ from loop.lbn c.min-stop.result _ _ _ (omega (arith, place.at)) (omega (arith, place.some))
-    loop.invariant.1.1.1.1.tells (rw loop.invariant.1.0 at c.take_piece.ensures.tells))
+    loop.invariant.1.1.1.1.0.tells (rw loop.invariant.1.0 at c.take_piece.ensures.tells))
 
 pub returns-clause-changes_no_block : goal.returns-clause-changes_no_block
 returns-clause-changes_no_block g c =
@@ -166,7 +184,7 @@ pub returns-clause-tells : goal.returns-clause-tells
 returns-clause-tells g c =
     let loop = c.loop-answer in
     tells_lost_wider _ c.args.blocks.start loop.lbn c.args.blocks.end _ _ (omega (arith, loop.invariant.0))
-    loop.invariant.1.1.1.1.tells
+    loop.invariant.1.1.1.1.0.tells
 
 pub returns-clause-adds_all_but : goal.returns-clause-adds_all_but
 returns-clause-adds_all_but g c =
@@ -181,7 +199,32 @@ returns-clause-adds_all_but g c =
     let last : loop.lbn ≡ to = reads_end from to 32 loop.lbn (length loop.yielded)
     (request_values c.in_ok-requests.requests.items) c.in_ok-requests.ensures.reads c.requires.some (came ∙ counted)
     loop.invariant.0 in
-    adds_to _ _ _ _ _ _ _ last loop.invariant.1.1.1.1
+    adds_to _ _ _ _ _ _ _ last loop.invariant.1.1.1.1.0
 
 pub returns-in_err-writes-clause-changes_no_block : goal.returns-in_err-writes-clause-changes_no_block
 returns-in_err-writes-clause-changes_no_block g c = rw (← c.self.view_is) (changes_no_block_none _)
+
+pub returns-in_err-requests-clause-loses_failed : goal.returns-in_err-requests-clause-loses_failed
+returns-in_err-requests-clause-loses_failed g c = λ sound. omega arith
+
+pub returns-in_err-writes-clause-loses_failed : goal.returns-in_err-writes-clause-loses_failed
+returns-in_err-writes-clause-loses_failed g c = rw (← c.self.view_is) (λ sound. omega arith)
+
+pub returns-in_err-answer-items-clause-loses_failed : goal.returns-in_err-answer-items-clause-loses_failed
+returns-in_err-answer-items-clause-loses_failed g c =
+    let keeps : KeepsFailures (units_in c.args.self.now) (units_in c.run_reads.new.self) =
+    subst (λ (s : CopierState). KeepsFailures (units_in s) (units_in c.run_reads.new.self)) c.self.view_is
+    c.run_reads.ensures.keeps_failures in
+    λ sound. omega (arith, keeps sound)
+
+pub returns-in_err-take_piece-clause-loses_failed : goal.returns-in_err-take_piece-clause-loses_failed
+returns-in_err-take_piece-clause-loses_failed g c =
+    λ sound. omega (
+      arith,
+      c.loop-answer.invariant.1.1.1.1.1
+          (λ u. c.take_piece.ensures.changes_no_block.stays_sound.sound_before u (sound u)),
+      c.take_piece.ensures.loses_failed sound,
+    )
+
+pub returns-clause-loses_failed : goal.returns-clause-loses_failed
+returns-clause-loses_failed g c = c.loop-answer.invariant.1.1.1.1.1

@@ -7,13 +7,14 @@ use Rattle.uda50_copy.specs.Copy.{units_in, source_of, AddsPieces}
 use Rattle.uda50_copy.proofs.Pieces.{answer_at, below, all_came, returned_at, reads_end, adds_next}
 use Rattle.uda50_copy.proofs.Told.{tells_lost_none, tells_lost_both, tells_lost_wider}
 use Rattle.uda50_copy.proofs.Gathered.{adds_none, adds_next_block, adds_to}
+use Rattle.uda50_copy.proofs.Losses.{errors_push, errors_front, errors_next, errors_told, reads_of_source}
 use Rattle.uda50_copy.proofs.copier.Copier.read_singly.Goals as goal
 
 pub run_reads-requires : goal.run_reads-requires
 run_reads-requires g c = (search rules, rw c.deref.ensures.value c.in_ok-requests.ensures.reads.writes_nothing)
 
 pub loop-answer-init : goal.loop-answer-init
-loop-answer-init g c = (omega (arith, c.requires.some), (λ all whole sound start h. h, adds_none _ _ _ _))
+loop-answer-init g c = (omega (arith, c.requires.some), (λ all whole sound start h. h, (adds_none _ _ _ _, omega arith)))
 
 pub loop-answer-preserved : goal.loop-answer-preserved
 loop-answer-preserved g c =
@@ -53,13 +54,21 @@ loop-answer-preserved g c =
             (request_values c.take_block.new.writes.items) from) (sym next)
             (adds_next _ _ (request_values loop.writes.items) _ from loop.lbn 1 (answer_value c.in-Some.answer)
             (loop.invariant.1.0 all whole sound) returned (c.in_ok-take_block.ensures.adds all)),
-        adds_to _ _ _ _ _ _ _ (sym next)
-            (adds_next_block c.args.self.now.skips_lost from loop.lbn _ _ _ (answer_value c.in-Some.answer)
-            (units_in c.args.self.now) (units_in c.run_reads.new.self) (omega (arith, at)) c.in_ok-answer-items.ensures.changes_no_block
-            (λ whole sound. returned_at from to 1 requests (answer_values items) (units_in c.args.self.now) k
-            loop.lbn 1 (answer_value c.in-Some.answer) reads
-            (rw c.deref.ensures.value at (c.in_ok-answer-items.ensures.returns whole sound)) asked tells at
-            (omega (arith, before))) loop.invariant.1.1 (rw same_skips at c.in_ok-take_block.ensures.adds_all_but)),
+        (
+          adds_to _ _ _ _ _ _ _ (sym next)
+              (adds_next_block c.args.self.now.skips_lost from loop.lbn _ _ _ (answer_value c.in-Some.answer)
+              (units_in c.args.self.now) (units_in c.run_reads.new.self) (omega (arith, at)) c.in_ok-answer-items.ensures.changes_no_block
+              (λ whole sound. returned_at from to 1 requests (answer_values items) (units_in c.args.self.now) k
+              loop.lbn 1 (answer_value c.in-Some.answer) reads
+              (rw c.deref.ensures.value at (c.in_ok-answer-items.ensures.returns whole sound)) asked tells at
+              (omega (arith, before))) loop.invariant.1.1.0 (rw same_skips at c.in_ok-take_block.ensures.adds_all_but)),
+          omega (
+            arith,
+            loop.invariant.1.1.1,
+            c.in_ok-take_block.ensures.loses,
+            errors_push loop.yielded c.in-Some.answer,
+          ),
+        ),
       ),
     )
 
@@ -107,13 +116,13 @@ returns-in_err-take_block-clause-tells g c =
     c.in_ok-answer-items.ensures.skips_lost in
     tells_lost_wider _ from (loop.lbn + 1) to _ _ (omega (arith, loop.invariant.0, begins))
     (tells_lost_both _ from loop.lbn (loop.lbn + 1) _ _ _ (omega (arith, loop.invariant.0, begins)) (omega arith)
-    loop.invariant.1.1.tells (rw same_skips at c.take_block.ensures.tells))
+    loop.invariant.1.1.0.tells (rw same_skips at c.take_block.ensures.tells))
 
 pub returns-clause-tells : goal.returns-clause-tells
 returns-clause-tells g c =
     let loop = c.loop-answer in
     let from = c.args.blocks.start in let to = c.args.blocks.end in
-    tells_lost_wider _ from loop.lbn to _ _ (omega (arith, loop.invariant.0)) loop.invariant.1.1.tells
+    tells_lost_wider _ from loop.lbn to _ _ (omega (arith, loop.invariant.0)) loop.invariant.1.1.0.tells
 
 pub returns-clause-adds_all_but : goal.returns-clause-adds_all_but
 returns-clause-adds_all_but g c =
@@ -128,4 +137,47 @@ returns-clause-adds_all_but g c =
     ∙ sym (length-map c.in_ok-requests.requests.items request_value) in
     let last : loop.lbn ≡ to = reads_end from to 1 loop.lbn n (request_values c.in_ok-requests.requests.items)
     c.in_ok-requests.ensures.reads c.requires.some (came ∙ counted) (omega (arith, loop.invariant.0)) in
-    adds_to _ _ _ _ _ _ _ last loop.invariant.1.1
+    adds_to _ _ _ _ _ _ _ last loop.invariant.1.1.0
+
+pub returns-in_err-requests-clause-loses_failed : goal.returns-in_err-requests-clause-loses_failed
+returns-in_err-requests-clause-loses_failed g c = λ sound. omega arith
+
+pub returns-in_err-answer-items-clause-loses_failed : goal.returns-in_err-answer-items-clause-loses_failed
+returns-in_err-answer-items-clause-loses_failed g c = λ sound.
+    omega (arith, c.run_reads.ensures.keeps_failures sound)
+
+pub returns-in_err-take_block-clause-loses_failed : goal.returns-in_err-take_block-clause-loses_failed
+returns-in_err-take_block-clause-loses_failed g c = λ sound.
+    let loop = c.loop-answer in
+    let items = c.in_ok-answer-items.answer-items.items in
+    let requests = request_values c.in_ok-requests.requests.items in
+    let counted : length (answer_values items) ≡ length requests =
+    length-map items answer_value ∙ c.in_ok-answer-items.ensures.counted ∙ ap length c.deref.ensures.value
+    ∙ sym (length-map c.in_ok-requests.requests.items request_value) in
+    omega (
+      arith,
+      loop.invariant.1.1.1,
+      c.take_block.ensures.loses,
+      errors_next _ _ c.next.new.self items loop.yielded c.in-Some.answer
+          c.into_iter-answer-iterator.ensures.into_iter_gives.0 loop.yielded_by c.in-Some.ensures.steps.0,
+      errors_told requests (answer_values items) counted
+          (reads_of_source _ _ _ requests c.in_ok-requests.ensures.reads),
+      rw c.deref.ensures.value at (c.in_ok-answer-items.ensures.failed sound),
+    )
+
+pub returns-clause-loses_failed : goal.returns-clause-loses_failed
+returns-clause-loses_failed g c = λ sound.
+    let loop = c.loop-answer in
+    let items = c.in_ok-answer-items.answer-items.items in
+    let requests = request_values c.in_ok-requests.requests.items in
+    let counted : length (answer_values items) ≡ length requests =
+    length-map items answer_value ∙ c.in_ok-answer-items.ensures.counted ∙ ap length c.deref.ensures.value
+    ∙ sym (length-map c.in_ok-requests.requests.items request_value) in
+    omega (
+      arith,
+      loop.invariant.1.1.1,
+      errors_front _ _ items loop.yielded c.into_iter-answer-iterator.ensures.into_iter_gives.0 loop.yielded_by,
+      errors_told requests (answer_values items) counted
+          (reads_of_source _ _ _ requests c.in_ok-requests.ensures.reads),
+      rw c.deref.ensures.value at (c.in_ok-answer-items.ensures.failed sound),
+    )

@@ -6,6 +6,7 @@ use Rattle.uda50_copy.specs.Changes.{ReturnsWhole}
 use Rattle.uda50_copy.proofs.Pieces.{adds_piece}
 use Rattle.uda50_copy.proofs.Told.{tells_lost_none, tells_lost_one}
 use Rattle.uda50_copy.proofs.Gathered.{adds_written, adds_lost}
+use Rattle.uda50_copy.proofs.Losses.{one_lost}
 use Rattle.uda50_copy.proofs.copier.Copier.take_block.Goals as goal
 
 pub returns-in_err-payload-clause-tells : goal.returns-in_err-payload-clause-tells
@@ -43,3 +44,8 @@ returns-in-Failed-2-clause-tells g c =
 pub returns-in-Failed-2-clause-adds_all_but : goal.returns-in-Failed-2-clause-adds_all_but
 returns-in-Failed-2-clause-adds_all_but g c =
     adds_lost c.args.self.now.skips_lost c.args.lbn _ _ _ (search rules) refl c.lost.ensures.told
+
+pub returns-in-Failed-2-clause-loses : goal.returns-in-Failed-2-clause-loses
+returns-in-Failed-2-clause-loses g c =
+    let failed = rw c.in-Failed-2.is at c.in_ok-payload.ensures.reading in
+    one_lost _ _ c.args.lbn (answer_value c.args.answer) failed c.lost.ensures.told

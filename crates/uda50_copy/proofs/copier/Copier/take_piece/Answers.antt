@@ -49,3 +49,9 @@ returns-in-Bytes-clause-adds g c =
 pub returns-in-Failed-clause-adds : goal.returns-in-Failed-clause-adds
 returns-in-Failed-clause-adds g c =
     on_ok_weaker c.read_singly.result (λ gathered returned. gathered) c.read_singly.ensures.gathers
+
+pub returns-in_err-payload-clause-loses_failed : goal.returns-in_err-payload-clause-loses_failed
+returns-in_err-payload-clause-loses_failed g c = λ sound. omega arith
+
+pub returns-in-Bytes-clause-loses_failed : goal.returns-in-Bytes-clause-loses_failed
+returns-in-Bytes-clause-loses_failed g c = λ sound. omega arith

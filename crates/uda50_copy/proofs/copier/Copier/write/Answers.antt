@@ -1,6 +1,7 @@
 use Rattle.uda_disk.specs.Values.{request_values, answer_values}
 use Rattle.uda50_copy.proofs.Pieces.{writes_by}
 use Rattle.uda50_copy.proofs.Gathered.{changes_written_by, changes_written_none, holds_written_by}
+use Rattle.uda50_copy.proofs.Losses.{keeps_none, keeps_by}
 use Rattle.uda50_copy.proofs.copier.Copier.write.Goals as goal
 
 pub returns-clause-writes : goal.returns-clause-writes
@@ -44,3 +45,25 @@ returns-clause-holds_written g c =
     (answer_values c.in_ok-answers.answers.items)
     (rw (c.deref-2.ensures.value, c.deref-3.ensures.value) at c.in_ok-all_written.ensures.written) ran.sound_before
     (λ sound. rw c.deref.ensures.value at (ran.in_order_run_with_failures_if_sound sound).run))
+
+pub returns-in_err-answers-clause-keeps_failures : goal.returns-in_err-answers-clause-keeps_failures
+returns-in_err-answers-clause-keeps_failures g c =
+    rw (← c.self.view_is, c.in_err-answers.ensures.unchanged) (keeps_none _)
+
+pub returns-in_err-all_written-clause-keeps_failures : goal.returns-in_err-all_written-clause-keeps_failures
+returns-in_err-all_written-clause-keeps_failures g c =
+    let ran = c.in_ok-answers.ensures in
+    rw (← c.self.view_is) (keeps_by _ _ _ (answer_values c.in_ok-answers.answers.items)
+    (λ sound. (ran.in_order_run_with_failures_if_sound sound).told))
+
+pub returns-in_err-self-inside-clause-keeps_failures : goal.returns-in_err-self-inside-clause-keeps_failures
+returns-in_err-self-inside-clause-keeps_failures g c =
+    let ran = c.in_ok-answers.ensures in
+    rw (← c.self.view_is) (keeps_by _ _ _ (answer_values c.in_ok-answers.answers.items)
+    (λ sound. (ran.in_order_run_with_failures_if_sound sound).told))
+
+pub returns-clause-keeps_failures : goal.returns-clause-keeps_failures
+returns-clause-keeps_failures g c =
+    let ran = c.in_ok-answers.ensures in
+    rw (← c.self.view_is) (keeps_by _ _ _ (answer_values c.in_ok-answers.answers.items)
+    (λ sound. (ran.in_order_run_with_failures_if_sound sound).told))

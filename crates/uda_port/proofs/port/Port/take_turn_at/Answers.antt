@@ -29,7 +29,7 @@ returns-clause-local g c =
     let access = access_any old memory 0 c.args.place ∙ sym (ap (λ (u : MemoryUse). u.access) uses) in
     let fate = ap (fate_in old.phase c.args.missing (may_fetch old)) access ∙ sym c.fate-fate.ensures in
     let local = is_local c.args.missing c.args.place old memory c.turn_by-turn.result c.turn_by-turn.new.self
-    c.turn_by-turn.new.memory c.fate-fate.result c.rings_are_sound.ensures.sound fate
+    c.turn_by-turn.new.memory c.fate-fate.result c.rings_are_valid.ensures.valid fate
     c.turn_by-turn.ensures.effect in
     let written = c.written_by_fate.ensures
     ∙ ap (λ (u : MemoryUse). written_by_fate c.fate-fate.result u.written) uses in
@@ -80,4 +80,4 @@ returns-clause-written g c =
 pub returns-clause-used_blocks : goal.returns-clause-used_blocks
 returns-clause-used_blocks g c =
     turn_changes c.args.missing c.args.place c.args.self.now c.args.memory.now c.turn_by-turn.result
-    c.turn_by-turn.new.self c.turn_by-turn.new.memory c.rings_are_sound.ensures.sound (returns-clause-effect g c)
+    c.turn_by-turn.new.self c.turn_by-turn.new.memory c.rings_are_valid.ensures.valid (returns-clause-effect g c)

@@ -26,7 +26,7 @@ set_rings-requires g c =
     let within = c.of_words-area.ensures.base taken in (
       search rules,
       (
-        c.of_words-area.ensures.sound,
+        c.of_words-area.ensures.valid,
         (
           omega (arith, above, four),
           (rw (← c.self.view_is) within, ap is_step_3 c.requires.step),

@@ -5,7 +5,7 @@ use Rattle.uda_mem.specs.declared.range.ByteRange.{ByteRange}
 use Rattle.uda_mem.specs.Put.{part}
 use Rattle.uda_mem.specs.Ranges.{EMPTY_RANGE, SameIn, carried}
 use Rattle.uda_port.specs.declared.phase.Phase.{Phase}
-use Rattle.uda_port.specs.declared.phase.Phase.TheVariants.{Step1, Step2, Step3, Wrap, PurgeTest, PollTest, Step4, Running, Dead}
+use Rattle.uda_port.specs.declared.phase.Phase.TheVariants.{Step3}
 use Rattle.uda_port.specs.Port.{PortState}
 use Rattle.uda_port.specs.Startup.{area_of, has_area, refuses_third}
 use Rattle.uda_port.specs.StartupUse.{area_range, range_zeroed, range_written, WordIsLocal}
@@ -23,14 +23,7 @@ zeroed_of_length (Step3 first second) port memory other word long =
     let area = area_of port.profile first second word in
     ap (λ (n : ℕ). if refuses_third port.profile word then EMPTY_RANGE
     else if has_area area n then area_range area else EMPTY_RANGE) long
-zeroed_of_length Step1 port memory other word long = refl
-zeroed_of_length (Step2 first) port memory other word long = refl
-zeroed_of_length (Wrap before) port memory other word long = refl
-zeroed_of_length PurgeTest port memory other word long = refl
-zeroed_of_length PollTest port memory other word long = refl
-zeroed_of_length Step4 port memory other word long = refl
-zeroed_of_length Running port memory other word long = refl
-zeroed_of_length (Dead cause) port memory other word long = refl
+zeroed_of_length _ port memory other word long = refl
 
 written_of_length : (missing : Bool) (port : PortState) (memory other : List ℕ) (word : ℕ)
     → length other ≡ length memory → range_written missing (port, other) word

@@ -2,35 +2,29 @@
 use Rattle.uda_c.specs.ControllerState.{ControllerState}
 use Rattle.uda_c.specs.Controllers.{unit_with, with_store}
 use Rattle.uda_image.specs.Store.{StoreState}
-use Rattle.std.proofs.Common.{◌≡◌, ℕ, zero, suc, Bool, true, false, List, [], ◌∷◌, set, Option, Some, None, Result, Ok, Err, refl, sym, ap, ◌∙◌}
+use Rattle.std.proofs.Common.{◌≡◌, ℕ, zero, suc, Bool, true, false, List, [], ◌∷◌, set, Option, Some, None, refl, sym, ap, ◌∙◌}
 use Rattle.std.specs.Prelude.{option_map, slice_get, unwrap_or, if◌then◌else◌}
 use Rattle.std.proofs.lemmas.Option.{slice_get-map}
-use Rattle.uda_packet.specs.declared.guest_command.GuestCommand.{GuestCommand}
 use Rattle.uda_packet.specs.declared.reply.Reply.{Reply}
-use Rattle.uda_packet.specs.declared.reply.ReplyBody.{ReplyBody}
-use Rattle.uda_packet.specs.declared.reply.ReplyBody.TheVariants.{Basic, Abort, CommandStatus, AccessPaths, CompareController, Flush, SetUnit, Compare}
-use Rattle.uda_port.specs.AtOnce.{exec_for, exec_at_once}
 use Rattle.uda_port.specs.declared.profile.Profile.TheVariants.{Strict, Compatible}
 use Rattle.uda_disk.specs.declared.mode.Mode.{Mode}
 use Rattle.uda_disk.specs.Units.{UnitState, Units, FixedAttributes, attributes_of, unit_attributes, is_faithful, AllFaithful}
 use Rattle.uda_exec.specs.Drives.{DriveState, fresh_unit, reset_unit, in_mode, with_drive, with_mode}
 use Rattle.uda_exec.specs.Disks.{ExecState}
 use Rattle.uda_port.specs.declared.phase.Phase.{Phase}
-use Rattle.uda_port.specs.declared.phase.Phase.TheVariants.{Step1, Step2, Step3, Wrap, PurgeTest, PollTest, Step4, Running, Dead}
-use Rattle.uda_port.specs.declared.phase.Fatal.{Fatal}
-use Rattle.uda_port.specs.declared.phase.Fatal.TheVariants.{PacketRead, PacketWrite, RingRead, RingWrite, CreditsExceeded, InvalidConnection, InitializationError}
+use Rattle.uda_port.specs.declared.phase.Phase.TheVariants.{Step1, Step2, Step3, PurgeTest, Step4, Running}
 use Rattle.uda_port.specs.declared.profile.Profile.{Profile}
 use Rattle.uda_port.specs.declared.turn.Turn.{Turn}
-use Rattle.uda_port.specs.declared.turn.Turn.TheVariants.{Fetched, Executed, Delivered, Notified, Idle, Dead as DeadTurn}
 use Rattle.uda_port.specs.Port.{PortState, port_restarted, port_after_ip_read, port_with_drive, drive_put, protected_drive, read_only_at}
-use Rattle.uda_port.specs.Message.{message_in}
 use Rattle.uda_port.specs.Startup.{has_bit, after_wrap_request, area_of, has_area, refuses_second, refuses_third, asks_test, after_sa_write}
 use Rattle.uda_port.specs.declared.memory_use.Missing.{Missing}
 use Rattle.uda_port.specs.declared.turn_at.Fate.{Fate}
 use Rattle.uda_port.specs.declared.turn_at.Fate.TheVariants.{Usual, FailsInFetch, FailsLater, WithoutBuffer}
 use Rattle.uda_port.specs.MemoryUse.{EffectBy, EffectWithout, fate_of}
 use Rattle.uda_port.specs.StartupUse.{WordEffect}
-use Rattle.uda_port.specs.Turn.{port_turn_on, port_with_message, ExecutesFor, TurnEffect, RunningTurn, GoesOn, Fails, InFetch, InRest, FetchRule}
+use Rattle.uda_port.specs.Plan.{Step}
+use Rattle.uda_port.specs.Turn.{ExecutesFor, TurnEffect}
+use Rattle.uda_port.proofs.PlanLaws.{case_of, Outcome, Executing, Other, outcome}
 
 -- ---- a change that keeps the fixed attributes of all units keeps them faithful
 
@@ -60,95 +54,34 @@ along old new same all u = of_natures new.exec.units u
 
 -- ---- a turn
 
-guest_natures : (b : ReplyBody) (r : Reply) (exec : ExecState)
-    → unit_attributes (exec_for b r exec).units ≡ unit_attributes exec.units
-guest_natures (Basic b) r exec = refl
-guest_natures (Abort named) r exec = refl
-guest_natures (CommandStatus named progress) r exec = refl
-guest_natures AccessPaths r exec = refl
-guest_natures CompareController r exec = refl
-guest_natures Flush r exec = refl
-guest_natures (SetUnit flags size) r exec = refl
-guest_natures (Compare bytes) r exec = refl
-
-at_once_natures : (profile : Profile) (r : Reply) (exec : ExecState)
-    → unit_attributes (exec_at_once profile r exec).units ≡ unit_attributes exec.units
-at_once_natures Strict r exec = refl
-at_once_natures (Compatible identity) r exec = guest_natures r.body r exec
-
-message_natures : (old : PortState) (message : Result GuestCommand Reply)
-    → all_attributes (port_with_message old message) ≡ all_attributes old
-message_natures old (Ok c) = refl
-message_natures old (Err r) = at_once_natures old.profile r old.exec
-
-fetch_natures : (cause : Fatal) (old : PortState) (memory : List ℕ) (new : PortState) (after : List ℕ)
-    → FetchRule old memory (Err cause) new after → all_attributes new ≡ all_attributes old
-fetch_natures PacketRead old memory new after line = ap all_attributes line.1.state
-fetch_natures RingRead old memory new after line = ap all_attributes line.1.state
-fetch_natures CreditsExceeded old memory new after line = ap all_attributes line.taken.others
-fetch_natures InvalidConnection old memory new after line = ap all_attributes line.taken.others
-fetch_natures PacketWrite old memory new after line = absurd line
-fetch_natures RingWrite old memory new after line = absurd line
-fetch_natures InitializationError old memory new after line = absurd line
-
-rest_natures : (cause : Fatal) (old : PortState) (memory : List ℕ) (new : PortState) (after : List ℕ)
-    → GoesOn old memory (Err cause) new after → all_attributes new ≡ all_attributes old
-rest_natures PacketWrite old memory new after goes = ap all_attributes goes.rest.1.1.state
-rest_natures RingRead old memory new after goes = ap all_attributes goes.rest.1.1.state
-rest_natures PacketRead old memory new after goes = absurd goes.rest.1
-rest_natures CreditsExceeded old memory new after goes = absurd goes.rest.1
-rest_natures InvalidConnection old memory new after goes = absurd goes.rest.1
-rest_natures RingWrite old memory new after goes = absurd goes.rest.1
-rest_natures InitializationError old memory new after goes = absurd goes.rest.1
-
-pub fails_natures : (cause : Fatal) (old : PortState) (memory : List ℕ) (new : PortState) (after : List ℕ)
-    → Fails cause old memory new after → all_attributes new ≡ all_attributes old
-fails_natures cause old memory new after (InFetch line) = fetch_natures cause old memory new after line
-fails_natures cause old memory new after (InRest goes) = rest_natures cause old memory new after goes
-
 executed_natures : (profile : Profile) (j : ℕ) (old : ExecState) (memory : List ℕ) (r : Reply)
     (new : ExecState) (after : List ℕ) → ExecutesFor profile j old memory r new after
     → unit_attributes new.units ≡ unit_attributes old.units
 executed_natures Strict j old memory r new after done = done.executes.executes.all_attributes_stay
 executed_natures (Compatible identity) j old memory r new after done = done.all_attributes_stay
 
-running_natures : (turn : Turn) (old : PortState) (memory : List ℕ) (new : PortState) (after : List ℕ)
-    → RunningTurn old memory turn new after → all_attributes new ≡ all_attributes old
-running_natures Fetched old memory new after goes =
-    ap all_attributes goes.others ∙ message_natures (port_turn_on old) (message_in old.profile goes.packet)
-running_natures Executed old memory new after goes =
-    executed_natures old.profile goes.rest.0 old.exec memory goes.rest.1.end new.exec after
-    goes.rest.1.executes
-running_natures Delivered old memory new after goes = ap all_attributes goes.rest.1.others
-running_natures Notified old memory new after goes = ap all_attributes goes.rest.1.others
-running_natures Idle old memory new after goes = ap all_attributes goes.rest.1.1.state
-running_natures DeadTurn old memory new after goes =
-    ap all_attributes goes.died ∙ fails_natures goes.cause (port_turn_on old) memory goes.before after goes.fails
+pub turn_natures : (turn : Turn) (old : PortState) (memory : List ℕ) (new : PortState) (after : List ℕ)
+    → TurnEffect old.phase old memory turn new after → all_attributes new ≡ all_attributes old
+turn_natures turn old memory new after goes = by (outcome (λ j. Unit {0}) turn s (case_of turn s goes))
+  where
+    s : Step
+    s = record { old = old; memory = memory; new = new; memory_after = after }
 
-pub turn_natures : (p : Phase) (turn : Turn) (old : PortState) (memory : List ℕ) (new : PortState) (after : List
-    ℕ)
-    → TurnEffect p old memory turn new after → all_attributes new ≡ all_attributes old
-turn_natures Running turn old memory new after goes = running_natures turn old memory new after goes
-turn_natures (Dead before) turn old memory new after goes = ap all_attributes goes.unchanged.state
-turn_natures Step1 turn old memory new after goes = ap all_attributes goes.unchanged.state
-turn_natures (Step2 first) turn old memory new after goes = ap all_attributes goes.unchanged.state
-turn_natures (Step3 first second) turn old memory new after goes = ap all_attributes goes.unchanged.state
-turn_natures PurgeTest turn old memory new after goes = ap all_attributes goes.unchanged.state
-turn_natures PollTest turn old memory new after goes = ap all_attributes goes.unchanged.state
-turn_natures Step4 turn old memory new after goes = ap all_attributes goes.unchanged.state
-turn_natures (Wrap word) turn old memory new after goes = ap all_attributes goes.unchanged.state
+    by : Outcome (λ j. Unit {0}) turn s → all_attributes new ≡ all_attributes old
+    by (Executing plan is j at x) = executed_natures old.profile j old.exec memory x.end new.exec after x.executes
+    by (Other none never units) = ap unit_attributes units
 
 pub turn_faithful : (turn : Turn) (old : PortState) (memory : List ℕ) (new : PortState) (after : List ℕ)
     → TurnEffect old.phase old memory turn new after → AllFaithful old.exec.units → AllFaithful new.exec.units
 turn_faithful turn old memory new after goes =
-    along old new (turn_natures old.phase turn old memory new after goes)
+    along old new (turn_natures turn old memory new after goes)
 
 -- ---- a turn over memory through map registers
 
 pub effect_natures : (fate : Fate) (place : ℕ) (before : PortState × List ℕ) (turn : Turn) (after : PortState × List ℕ)
     → EffectBy fate place before turn after → all_attributes after.0 ≡ all_attributes before.0
 effect_natures Usual place before turn after goes =
-    turn_natures before.0.phase turn before.0 before.1 after.0 after.1 goes.goes
+    turn_natures turn before.0 before.1 after.0 after.1 goes.goes
 effect_natures (FailsInFetch cause) place before turn after goes = ap all_attributes goes.0.died
 effect_natures (FailsLater cause) place before turn after goes = ap all_attributes goes.0.died
 effect_natures WithoutBuffer place before turn after goes =
@@ -190,11 +123,8 @@ word_natures (Step3 first second) old memory word =
     (chosen_pair (has_area (area_of old.profile first second word) _) _ _ _
     (chosen (asks_test old.profile word) _ _ _ refl refl) refl)
 word_natures PurgeTest old memory word = chosen _ _ old _ refl refl
-word_natures PollTest old memory word = refl
 word_natures Step4 old memory word = chosen (has_bit word 0) _ old _ refl refl
-word_natures Running old memory word = refl
-word_natures (Dead cause) old memory word = refl
-word_natures (Wrap before) old memory word = refl
+word_natures _ old memory word = refl
 
 pub word_faithful : (old : PortState) (memory : List ℕ) (word : ℕ) (new : PortState) (after : List ℕ)
     → (new, after) ≡ after_sa_write old.phase old memory word → AllFaithful old.exec.units
@@ -210,14 +140,7 @@ word_at_faithful true before word after is = word_faithful before.0 [] word afte
 
 asked_natures : (p : Phase) (old : PortState) → all_attributes (port_after_ip_read p old) ≡ all_attributes old
 asked_natures Running old = refl
-asked_natures PollTest old = refl
-asked_natures Step1 old = refl
-asked_natures (Step2 first) old = refl
-asked_natures (Step3 first second) old = refl
-asked_natures PurgeTest old = refl
-asked_natures Step4 old = refl
-asked_natures (Dead cause) old = refl
-asked_natures (Wrap word) old = refl
+asked_natures _ old = refl
 
 pub asked_faithful : (old new : PortState) → new ≡ port_after_ip_read old.phase old → AllFaithful old.exec.units
     → AllFaithful new.exec.units

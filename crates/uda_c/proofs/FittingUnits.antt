@@ -20,11 +20,10 @@ use Rattle.uda_port.specs.declared.interrupt.Interrupts.{Interrupts}
 use Rattle.uda_port.specs.declared.phase.Phase.{Phase}
 use Rattle.uda_port.specs.declared.phase.Phase.TheVariants.{Step1, Step2, Step3, Wrap, PurgeTest, PollTest, Step4, Running, Dead}
 use Rattle.uda_port.specs.declared.phase.Fatal.{Fatal}
-use Rattle.uda_port.specs.declared.phase.Fatal.TheVariants.{PacketRead, PacketWrite, RingRead, RingWrite, CreditsExceeded, InvalidConnection, InitializationError}
+use Rattle.uda_port.specs.declared.phase.Fatal.TheVariants.{RingWrite, CreditsExceeded, InvalidConnection, InitializationError}
 use Rattle.uda_port.specs.declared.profile.Profile.{Profile}
 use Rattle.uda_port.specs.declared.profile.Profile.TheVariants.{Strict, Compatible}
 use Rattle.uda_port.specs.declared.turn.Turn.{Turn}
-use Rattle.uda_port.specs.declared.turn.Turn.TheVariants.{Fetched, Executed, Delivered, Notified, Idle, Dead as DeadTurn}
 use Rattle.uda_port.specs.Guest.{is_due, attention_set, is_online_now}
 use Rattle.uda_port.specs.Message.{message_in, flags_kept}
 use Rattle.uda_port.specs.Port.{PortState, port_restarted, port_after_ip_read, port_with_drive, drive_put, read_only_by, attention_due, with_type}
@@ -33,12 +32,13 @@ use Rattle.uda_port.specs.declared.saved.Saved.{Saved}
 use Rattle.uda_port.specs.declared.saved.RestoreError.{RestoreError}
 use Rattle.uda_port.specs.Saved.{RestoreEffect, saved_port}
 use Rattle.uda_port.specs.Startup.{has_bit, after_wrap_request, area_of, has_area, refuses_second, refuses_third, asks_test, after_sa_write, failed_port}
-use Rattle.uda_port.specs.Turn.{port_turn_on, port_with_message, port_not_polling, may_fetch, ExecutesOne, ExecutesFor, FetchesOne, TurnEffect, RunningTurn, GoesOn, Fails, InFetch, InRest, FetchRule}
+use Rattle.uda_port.specs.Plan.{Step, counted, plan_of, Rests, NoCommands, Unreadable, Exceeds, Unconnected, Fetches, Executes, DeliversEnd, Notifies, Waits, NoResponses, NoRoom}
+use Rattle.uda_port.specs.Turn.{port_turn_on, port_with_message, port_not_polling, may_fetch, ExecutesOne, ExecutesFor, TurnEffect}
 use Rattle.uda_port.specs.declared.memory_use.Access.{Access}
 use Rattle.uda_port.specs.declared.memory_use.Missing.{Missing}
 use Rattle.uda_port.specs.declared.turn_at.Fate.{Fate}
 use Rattle.uda_port.specs.declared.turn_at.Fate.TheVariants.{Usual, FailsInFetch, FailsLater, WithoutBuffer}
-use Rattle.uda_port.specs.MemoryUse.{use_of, fate_in, fate_of, CanFail, EffectBy, EffectWithout}
+use Rattle.uda_port.specs.MemoryUse.{access_of, fate_in, fate_of, CanFail, EffectBy, EffectWithout}
 use Rattle.uda_port.specs.StartupUse.{WordEffect}
 use Rattle.uda_port.proofs.MemoryUseLaws.{fate_fails}
 use Rattle.uda_c.specs.ControllerState.{ControllerState}
@@ -47,7 +47,7 @@ use Rattle.uda_image.specs.Store.{StoreState}
 use Rattle.uda_c.specs.Fits.{UnitNotice, unit_fits, notice_of, fits_at, is_as_attached, can_rest, image_fits, FitsController, numbers_fit, fits_in, fits_controller}
 use Rattle.uda_c.proofs.FaithfulUnits.{turn_natures, effect_natures}
 use Rattle.uda_c.proofs.ModeSteps.{online_at, rests_at, online_steps, rest_steps}
-use Rattle.uda_port.proofs.TurnBlockChanges.{units_with}
+use Rattle.uda_port.proofs.PlanLaws.{AnyCase, case_of, units_with}
 
 abbrev AllFit : PortState → Type 0
 AllFit port = (u : ℕ) → u < 4 → fits_at port u ≡ true
@@ -262,66 +262,6 @@ after_less false g drive = same_due g.attentions
 run_by : (a b : Phase) → b ≡ a → has_run a ≡ true → has_run b ≡ true
 run_by a b same is = ap has_run same ∙ is
 
--- a fatal turn leaves all but the phase
-record Died (old before : PortState) (cause : Fatal) : Type 0 where
-  profile : before.profile ≡ old.profile
-  guest : before.guest ≡ old.guest
-  units : before.exec.units ≡ old.exec.units
-  of_turn : is_of_turn cause ≡ true
-
-died_by : (old before : PortState) (cause : Fatal) → before ≡ old → is_of_turn cause ≡ true → Died old before cause
-died_by old before cause same of_turn = record {
-  profile = ap (λ (p : PortState). p.profile) same;
-  guest = ap (λ (p : PortState). p.guest) same;
-  units = ap (λ (p : PortState). p.exec.units) same;
-  of_turn = of_turn;
-}
-
-fetch_died : (cause : Fatal) (old : PortState) (memory : List ℕ) (new : PortState) (after : List ℕ)
-    → FetchRule old memory (Err cause) new after → Died old new cause
-fetch_died PacketRead old memory new after line = died_by old new PacketRead line.1.state refl
-fetch_died RingRead old memory new after line = died_by old new RingRead line.1.state refl
-fetch_died CreditsExceeded old memory new after line = record {
-  profile = ap (λ (p : PortState). p.profile) line.taken.others;
-  guest = ap (λ (p : PortState). p.guest) line.taken.others;
-  units = ap (λ (p : PortState). p.exec.units) line.taken.others;
-  of_turn = refl;
-}
-fetch_died InvalidConnection old memory new after line = record {
-  profile = ap (λ (p : PortState). p.profile) line.taken.others;
-  guest = ap (λ (p : PortState). p.guest) line.taken.others;
-  units = ap (λ (p : PortState). p.exec.units) line.taken.others;
-  of_turn = refl;
-}
-fetch_died PacketWrite old memory new after line = absurd line
-fetch_died RingWrite old memory new after line = absurd line
-fetch_died InitializationError old memory new after line = absurd line
-
-rest_died : (cause : Fatal) (old : PortState) (memory : List ℕ) (new : PortState) (after : List ℕ)
-    → GoesOn old memory (Err cause) new after → Died old new cause
-rest_died PacketWrite old memory new after goes = record {
-  profile = ap (λ (p : PortState). p.profile) goes.rest.1.1.state;
-  guest = ap (λ (p : PortState). p.guest) goes.rest.1.1.state;
-  units = ap (λ (p : PortState). p.exec.units) goes.rest.1.1.state;
-  of_turn = refl;
-}
-rest_died RingRead old memory new after goes = record {
-  profile = ap (λ (p : PortState). p.profile) goes.rest.1.1.state;
-  guest = ap (λ (p : PortState). p.guest) goes.rest.1.1.state;
-  units = ap (λ (p : PortState). p.exec.units) goes.rest.1.1.state;
-  of_turn = refl;
-}
-rest_died PacketRead old memory new after goes = absurd goes.rest.1
-rest_died CreditsExceeded old memory new after goes = absurd goes.rest.1
-rest_died InvalidConnection old memory new after goes = absurd goes.rest.1
-rest_died RingWrite old memory new after goes = absurd goes.rest.1
-rest_died InitializationError old memory new after goes = absurd goes.rest.1
-
-fails_died : (cause : Fatal) (old : PortState) (memory : List ℕ) (new : PortState) (after : List ℕ)
-    → Fails cause old memory new after → Died old new cause
-fails_died cause old memory new after (InFetch line) = fetch_died cause old memory new after line
-fails_died cause old memory new after (InRest goes) = rest_died cause old memory new after goes
-
 message_profile : (old : PortState) (m : Result GuestCommand Reply) → (port_with_message old m).profile ≡ old.profile
 message_profile old (Ok c) = refl
 message_profile old (Err r) = refl
@@ -367,151 +307,80 @@ executed_keeps j old memory new after runs goes same = record {
       rest_steps j old.exec memory goes.end new.exec after strictly u is;
 }
 
-fetched_units : (old : PortState) (memory : List ℕ) (new : PortState) (after : List ℕ)
-    → FetchesOne (port_turn_on old) memory new after → new.exec.units ≡ old.exec.units
-fetched_units old memory new after goes =
-    ap (λ (p : PortState). p.exec.units) goes.others ∙ units_with (port_turn_on old) (message_in old.profile goes.packet)
+-- a port that has run, and keeps its units, is this now
+left : (old new now : PortState) → new ≡ now → now.profile ≡ old.profile → now.guest.types ≡ old.guest.types
+    → IsLess now.guest.attentions old.guest.attentions → now.exec.units ≡ old.exec.units → has_run now.phase ≡ true
+    → Keeps old new
+left old new now is profile kinds less units run = subst (Keeps old) (sym is) (record {
+  profile = profile;
+  kinds = kinds;
+  less = less;
+  attributes = ap unit_attributes units;
+  run = run;
+  online = same_online old now units;
+  rests = same_rests old now units;
+})
 
-running_keeps : (turn : Turn) (old : PortState) (memory : List ℕ) (new : PortState) (after : List ℕ)
-    → old.phase ≡ Running → RunningTurn old memory turn new after
-    → unit_attributes new.exec.units ≡ unit_attributes old.exec.units → Keeps old new
-running_keeps Fetched old memory new after runs goes same = record {
-  profile = ap (λ (p : PortState). p.profile) goes.others ∙ message_profile (port_turn_on old) (message_in old.profile goes.packet);
-  kinds = ap (λ (p : PortState). p.guest.types) goes.others
-      ∙ flags_kinds old.profile goes.packet (message_in old.profile goes.packet) old.guest;
-  less = less_by _ _ (ap (λ (p : PortState). p.guest.attentions) goes.others
-      ∙ flags_due old.profile goes.packet (message_in old.profile goes.packet) old.guest);
-  attributes = same;
-  run = run_by Running new.phase
-      (ap (λ (p : PortState). p.phase) goes.others ∙ message_phase (port_turn_on old) (message_in old.profile goes.packet) ∙ runs) refl;
-  online = same_online old new (fetched_units old memory new after goes);
-  rests = same_rests old new (fetched_units old memory new after goes);
-}
-running_keeps Executed old memory new after runs goes same =
-    executed_keeps goes.rest.0 old memory new after runs goes.rest.1 same
-running_keeps Delivered old memory new after runs goes same =
-    let others = goes.rest.1.others in
-    record {
-      profile = ap (λ (p : PortState). p.profile) others;
-      kinds = ap (λ (p : PortState). p.guest.types) others;
-      less = less_by _ _ (ap (λ (p : PortState). p.guest.attentions) others);
-      attributes = same;
-      run = run_by Running new.phase (ap (λ (p : PortState). p.phase) others ∙ runs) refl;
-      online = same_online old new (ap (λ (p : PortState). p.exec.units) others);
-      rests = same_rests old new (ap (λ (p : PortState). p.exec.units) others);
-    }
-running_keeps Notified old memory new after runs goes same =
-    let others = goes.rest.1.others in
-    record {
-      profile = ap (λ (p : PortState). p.profile) others;
-      kinds = ap (λ (p : PortState). p.guest.types) others;
-      less = λ u is. unset_less old.guest.attentions goes.rest.1.drive u
-          (sym (ap (λ (p : PortState). is_due p.guest.attentions u) others) ∙ is);
-      attributes = same;
-      run = run_by Running new.phase (ap (λ (p : PortState). p.phase) others ∙ runs) refl;
-      online = same_online old new (ap (λ (p : PortState). p.exec.units) others);
-      rests = same_rests old new (ap (λ (p : PortState). p.exec.units) others);
-    }
-running_keeps Idle old memory new after runs goes same =
-    let state = goes.rest.1.1.state in
-    record {
-      profile = ap (λ (p : PortState). p.profile) state;
-      kinds = ap (λ (p : PortState). p.guest.types) state;
-      less = less_by _ _ (ap (λ (p : PortState). p.guest.attentions) state);
-      attributes = same;
-      run = run_by Running new.phase (ap (λ (p : PortState). p.phase) state ∙ runs) refl;
-      online = same_online old new (ap (λ (p : PortState). p.exec.units) state);
-      rests = same_rests old new (ap (λ (p : PortState). p.exec.units) state);
-    }
-running_keeps DeadTurn old memory new after runs goes same =
-    let died = fails_died goes.cause (port_turn_on old) memory goes.before after goes.fails in
-    record {
-      profile = ap (λ (p : PortState). p.profile) goes.died ∙ died.profile;
-      kinds = ap (λ (p : PortState). p.guest.types) goes.died ∙ ap (λ (g : Guest). g.types) died.guest;
-      less = less_by _ _ (ap (λ (p : PortState). p.guest.attentions) goes.died
-          ∙ ap (λ (g : Guest). g.attentions) died.guest);
-      attributes = same;
-      run = ap (λ (p : PortState). has_run p.phase) goes.died ∙ died.of_turn;
-      online = same_online old new (ap (λ (p : PortState). p.exec.units) goes.died ∙ died.units);
-      rests = same_rests old new (ap (λ (p : PortState). p.exec.units) goes.died ∙ died.units);
-    }
+failing_keeps : (cause : Fatal) (old new : PortState) → is_of_turn cause ≡ true
+    → new ≡ failed_port old cause → Keeps old new
+failing_keeps cause old new of_turn died = left old new _ died refl refl (same_due old.guest.attentions) refl of_turn
 
-same_fits : (old new : PortState) → new ≡ old → AllFit old → AllFit new
-same_fits old new same all u less = ap (λ (p : PortState). fits_at p u) same ∙ all u less
+turn_keeps : (turn : Turn) (s : Step) → unit_attributes s.new.exec.units ≡ unit_attributes s.old.exec.units
+    → AnyCase turn s → (s.new ≡ s.old) ⊎ Keeps s.old s.new
+turn_keeps turn s same c = by c
+  where
+    -- the port is this now, and runs as before, or died
+    kept : (now : PortState) → s.new ≡ now → now.profile ≡ s.old.profile → now.guest ≡ s.old.guest
+        → now.exec.units ≡ s.old.exec.units → has_run now.phase ≡ true → (s.new ≡ s.old) ⊎ Keeps s.old s.new
+    kept now is profile guest units run =
+        inr (left s.old s.new now is profile (ap (λ (g : Guest). g.types) guest)
+        (less_by _ _ (ap (λ (g : Guest). g.attentions) guest)) units run)
 
-turn_by : (phase : Phase) (turn : Turn) (old : PortState) (memory : List ℕ) (new : PortState) (after : List ℕ)
-    → old.phase ≡ phase → TurnEffect phase old memory turn new after
-    → unit_attributes new.exec.units ≡ unit_attributes old.exec.units → AllFit old → AllFit new
-turn_by Running turn old memory new after is goes same all =
-    kept_fits old new (running_keeps turn old memory new after is goes same) all
-turn_by (Dead cause) turn old memory new after is goes same all = same_fits old new goes.unchanged.state all
-turn_by Step1 turn old memory new after is goes same all = same_fits old new goes.unchanged.state all
-turn_by (Step2 first) turn old memory new after is goes same all = same_fits old new goes.unchanged.state all
-turn_by (Step3 first second) turn old memory new after is goes same all = same_fits old new goes.unchanged.state all
-turn_by (Wrap word) turn old memory new after is goes same all = same_fits old new goes.unchanged.state all
-turn_by PurgeTest turn old memory new after is goes same all = same_fits old new goes.unchanged.state all
-turn_by PollTest turn old memory new after is goes same all = same_fits old new goes.unchanged.state all
-turn_by Step4 turn old memory new after is goes same all = same_fits old new goes.unchanged.state all
-
-turn_profile : (phase : Phase) (turn : Turn) (old : PortState) (memory : List ℕ) (new : PortState) (after : List ℕ)
-    → old.phase ≡ phase → TurnEffect phase old memory turn new after
-    → unit_attributes new.exec.units ≡ unit_attributes old.exec.units → new.profile ≡ old.profile
-turn_profile Running turn old memory new after is goes same =
-    (running_keeps turn old memory new after is goes same).profile
-turn_profile (Dead cause) turn old memory new after is goes same =
-    ap (λ (p : PortState). p.profile) goes.unchanged.state
-turn_profile Step1 turn old memory new after is goes same = ap (λ (p : PortState). p.profile) goes.unchanged.state
-turn_profile (Step2 first) turn old memory new after is goes same =
-    ap (λ (p : PortState). p.profile) goes.unchanged.state
-turn_profile (Step3 first second) turn old memory new after is goes same =
-    ap (λ (p : PortState). p.profile) goes.unchanged.state
-turn_profile (Wrap word) turn old memory new after is goes same =
-    ap (λ (p : PortState). p.profile) goes.unchanged.state
-turn_profile PurgeTest turn old memory new after is goes same =
-    ap (λ (p : PortState). p.profile) goes.unchanged.state
-turn_profile PollTest turn old memory new after is goes same =
-    ap (λ (p : PortState). p.profile) goes.unchanged.state
-turn_profile Step4 turn old memory new after is goes same = ap (λ (p : PortState). p.profile) goes.unchanged.state
+    by : AnyCase turn s → (s.new ≡ s.old) ⊎ Keeps s.old s.new
+    by (Rests rests answer same) = inl same.state
+    by (NoCommands d line same) = kept _ same.state refl refl refl refl
+    by (Unreadable d line same) = kept _ same.state refl refl refl refl
+    by (Exceeds d before line is) =
+        kept _ (is ∙ ap (λ (p : PortState). failed_port p CreditsExceeded) line.taken.others) refl refl refl refl
+    by (Unconnected d before line is) =
+        kept _ (is ∙ ap (λ (p : PortState). failed_port p InvalidConnection) line.taken.others) refl refl refl refl
+    by (Fetches d line) =
+        let m = message_in s.old.profile line.packet in
+        inr (left s.old s.new _ line.others (message_profile (counted s) m)
+        (flags_kinds s.old.profile line.packet m s.old.guest)
+        (less_by _ _ (flags_due s.old.profile line.packet m s.old.guest)) (units_with (counted s) m)
+        (ap has_run (message_phase (counted s) m ∙ d.runs)))
+    by (Executes d nothing j is line) =
+        inr (executed_keeps j s.old s.memory s.new s.memory_after d.runs line same)
+    by (DeliversEnd d r line) = kept _ line.others refl refl refl (ap has_run d.runs)
+    by (Notifies d r line) =
+        inr (left s.old s.new _ line.others refl refl (unset_less s.old.guest.attentions line.drive) refl (ap has_run d.runs))
+    by (Waits d r none same) = kept _ same.state refl refl refl (ap has_run d.runs)
+    by (NoResponses d r line same) = kept _ same.state refl refl refl refl
+    by (NoRoom d r line same) = kept _ same.state refl refl refl refl
 
 fits_by : (old new : PortState) → new.profile ≡ old.profile → AllFit new → FitsController old → FitsController new
 fits_by old new profile units is = record { numbers = ap numbers_fit profile ∙ is.numbers; units = units }
 
 pub turn_fits : (turn : Turn) (old : PortState) (memory : List ℕ) (new : PortState) (after : List ℕ)
     → TurnEffect old.phase old memory turn new after → FitsController old → FitsController new
-turn_fits turn old memory new after goes is =
-    let same = turn_natures old.phase turn old memory new after goes in
-    fits_by old new (turn_profile old.phase turn old memory new after refl goes same)
-    (turn_by old.phase turn old memory new after refl goes same is.units) is
+turn_fits turn old memory new after goes fits =
+    let s : Step = record { old = old; memory = memory; new = new; memory_after = after } in
+    elim (turn_keeps turn s (turn_natures turn old memory new after goes) (case_of turn s goes)) [
+      | inl same ↦ subst FitsController (sym same) fits
+      | inr keeps ↦ fits_by old new keeps.profile (kept_fits old new keeps fits.units) fits
+    ]
 
 -- a turn over memory through map registers
-failing_keeps : (cause : Fatal) (old new : PortState) → is_of_turn cause ≡ true
-    → new ≡ failed_port old cause → Keeps old new
-failing_keeps cause old new of_turn died = record {
-  profile = ap (λ (p : PortState). p.profile) died;
-  kinds = ap (λ (p : PortState). p.guest.types) died;
-  less = less_by _ _ (ap (λ (p : PortState). p.guest.attentions) died);
-  attributes = ap (λ (p : PortState). unit_attributes p.exec.units) died;
-  run = ap (λ (p : PortState). has_run p.phase) died ∙ of_turn;
-  online = same_online old new (ap (λ (p : PortState). p.exec.units) died);
-  rests = same_rests old new (ap (λ (p : PortState). p.exec.units) died);
-}
-
 fails_running : (phase : Phase) (missing : Missing) (polls : Bool) (access : Access)
     → (fate_in phase missing polls access ≡ Usual → ⊥) → phase ≡ Running
 fails_running Running missing polls access fails = refl
-fails_running (Dead cause) missing polls access fails = absurd (fails refl)
-fails_running Step1 missing polls access fails = absurd (fails refl)
-fails_running (Step2 first) missing polls access fails = absurd (fails refl)
-fails_running (Step3 first second) missing polls access fails = absurd (fails refl)
-fails_running (Wrap before) missing polls access fails = absurd (fails refl)
-fails_running PurgeTest missing polls access fails = absurd (fails refl)
-fails_running PollTest missing polls access fails = absurd (fails refl)
-fails_running Step4 missing polls access fails = absurd (fails refl)
+fails_running _ missing polls access fails = absurd (fails refl)
 
 module _ (missing : Missing) (place : ℕ) (turn : Turn) (old : PortState) (memory : List ℕ) (new : PortState)
     (after : List ℕ) (same : unit_attributes new.exec.units ≡ unit_attributes old.exec.units) where
   abbrev access : Access
-  access = (use_of old memory 0).access
+  access = access_of (plan_of old memory)
 
   runs : (fate : Fate) → fate_of missing old memory ≡ fate → (fate ≡ Usual → ⊥) → old.phase ≡ Running
   runs fate is fails =
@@ -656,13 +525,7 @@ asked_moves : (p : Phase) (old : PortState) → old.phase ≡ p → Moves old (p
 asked_moves Running old is = record { profile = refl; guest = refl; exec = refl; run = λ run. run }
 asked_moves PollTest old is =
     record { profile = refl; guest = refl; exec = refl; run = never_run old PollTest Step4 is refl }
-asked_moves Step1 old is = stays old
-asked_moves (Step2 first) old is = stays old
-asked_moves (Step3 first second) old is = stays old
-asked_moves PurgeTest old is = stays old
-asked_moves Step4 old is = stays old
-asked_moves (Dead cause) old is = stays old
-asked_moves (Wrap word) old is = stays old
+asked_moves _ old is = stays old
 
 pub asked_fits : (old new : PortState) → new ≡ port_after_ip_read old.phase old → FitsController old
     → FitsController new

@@ -126,10 +126,7 @@ acts (ask.Online protect) outcome c disk e is = by disk.mode.online refl
       rests = λ rests. rw off refl;
     }
 acts ask.Status outcome c disk e is = stays _ c.unit _ _ refl
-acts (ask.Read lbn bytes) outcome c disk e is = stays _ c.unit _ _ refl
-acts (ask.Access lbn bytes) outcome c disk e is = stays _ c.unit _ _ refl
-acts (ask.Write lbn payload) outcome c disk e is = stays _ c.unit _ _ refl
-acts (ask.Erase lbn bytes) outcome c disk e is = stays _ c.unit _ _ refl
+acts _ outcome c disk e is = stays _ c.unit _ _ refl
 
 module _ (c : Command) (e : End) (outcome : TransferOutcome) (w : World) (disks_after : Disks) where
   abbrev old_at : Option (Option Mode)

@@ -116,14 +116,8 @@ others_left p xs =
     omega (arith, length-append (take n xs) (drop (n + 1) xs), length-take n xs, length-drop (n + 1) xs)
 
 at_once : (body : ReplyBody) (r : Reply) (exec : ExecState) → length (exec_for body r exec).pending ≤ length exec.pending
-at_once (body.Basic b) r exec = omega arith
 at_once (body.Abort named) r exec = others_left (is_named r.unit named) exec.pending
-at_once (body.CommandStatus named progress) r exec = omega arith
-at_once body.AccessPaths r exec = omega arith
-at_once body.CompareController r exec = omega arith
-at_once body.Flush r exec = omega arith
-at_once (body.SetUnit flags size) r exec = omega arith
-at_once (body.Compare bytes) r exec = omega arith
+at_once _ r exec = omega arith
 
 by_profile : (profile : Profile) (r : Reply) (exec : ExecState)
     → length (exec_at_once profile r exec).pending ≤ length exec.pending
@@ -149,10 +143,6 @@ attentions_of port = port.guest.attentions
 
 module _ (old : PortState) (memory : List ℕ) (new : PortState) (memory_after : List ℕ) (may : MayNotify old memory) where
   running_first : (turn : Turn) → RunningTurn old memory turn new memory_after → goes_before_ends turn ≡ true
-  running_first Fetched goes = refl
-  running_first Executed goes = refl
-  running_first Notified goes = refl
-  running_first Dead goes = refl
   running_first Delivered goes =
       let no : is_some {T = List ℕ} None ≡ true = subst (λ (t : Option (List ℕ)). is_some t ≡ true) goes.rest.1.none_due may.due in
       absurd (cc)
@@ -163,6 +153,7 @@ module _ (old : PortState) (memory : List ℕ) (new : PortState) (memory_after :
       let one : host.next ≡ may.descriptor = cc in
       let both : false ≡ true = sym host.not_owned ∙ ap (λ (d : Descriptor). is_owned d) one ∙ may.free.owned in
       absurd (cc)
+  running_first _ goes = refl
 
   running_nearer : (turn : Turn) → RunningTurn old memory turn new memory_after → ComesNearer old turn new
   running_nearer Fetched goes =
@@ -237,12 +228,8 @@ most_turns port agree = by port.deliveries refl
 
 lives_nearer : (old : PortState) (turn : Turn) (new : PortState) → (turn ≡ Dead → ⊥) → ComesNearer old turn new
     → turns_to_notify new < turns_to_notify old
-lives_nearer old Fetched new lives it = it
-lives_nearer old Executed new lives it = it
-lives_nearer old Delivered new lives it = it
-lives_nearer old Notified new lives it = it
-lives_nearer old Idle new lives it = it
 lives_nearer old Dead new lives it = absurd (lives refl)
+lives_nearer old _ new lives it = it
 
 one_nearer : (old new : PortState) → UndeliveredTurn old new → turns_to_notify new < turns_to_notify old
 one_nearer old new t =

@@ -12,15 +12,16 @@ use Rattle.uda_port.specs.declared.phase.Fatal.TheVariants.{PacketRead, PacketWr
 use Rattle.uda_port.specs.declared.profile.Profile.{Profile}
 use Rattle.uda_port.specs.declared.profile.Profile.TheVariants.{Strict, Compatible}
 use Rattle.uda_port.specs.declared.turn.Turn.{Turn}
-use Rattle.uda_port.specs.declared.turn.Turn.TheVariants.{Fetched, Executed, Delivered, Notified, Idle, Dead as DeadTurn}
 use Rattle.uda_port.specs.declared.play.HostEvent.{HostEvent}
 use Rattle.uda_port.specs.declared.play.HostEvent.TheVariants.{WriteIp, ReadIp, WriteSa, Word, Turn as TurnEvent}
 use Rattle.uda_port.specs.Port.{PortState, port_in_phase, port_after_ip_read}
 use Rattle.uda_port.specs.Interrupt.{interrupts_asked}
 use Rattle.uda_port.specs.Startup.{has_bit, area_of, has_area, refuses_second, refuses_third, asks_test, after_third, after_sa_write, failed_port, port_with_rings, memory_with_area, after_wrap_request}
-use Rattle.uda_port.specs.Turn.{port_turn_on, port_with_message, TurnEffect, RunningTurn, GoesOn, Fails, InFetch, InRest, FetchRule}
+use Rattle.uda_port.specs.Plan.{Step, counted, silent, Rests, NoCommands, Unreadable, Exceeds, Unconnected, Fetches, Executes, DeliversEnd, Notifies, Waits, NoResponses, NoRoom}
+use Rattle.uda_port.specs.Turn.{port_with_message, TurnEffect}
 use Rattle.uda_port.specs.Message.{message_in}
-use Rattle.uda_port.specs.Events.{EventEffect, EventsEffect, FatalTurn, FatalWord, MeetsCause, LeavesIp, DiedAtEvent, StaysDead, DeathHasCause}
+use Rattle.uda_port.proofs.PlanLaws.{AnyCase, case_of}
+use Rattle.uda_port.specs.Events.{EventEffect, EventsEffect, Delivers, FatalTurn, FatalWord, MeetsCause, LeavesIp, DiedAtEvent, StaysDead, DeathHasCause}
 
 -- an event that isn't a write to IP
 abbrev IsOther : HostEvent → Type 0
@@ -147,123 +148,68 @@ fatal_word cause word (Dead before) old new memory memory_after p is dead =
 
 -- ---- a turn
 
--- what rule 1 met
-fails_fetch : (cause : Fatal) (old : PortState) (memory : List ℕ) (before : PortState) (memory_after : List ℕ)
-    → FetchRule old memory (Err cause) before memory_after → FatalTurn cause old memory
-fails_fetch PacketRead old memory before memory_after line = line.0
-fails_fetch RingRead old memory before memory_after line = inl line.0
-fails_fetch CreditsExceeded old memory before memory_after line =
-    record { new = before; memory_after = memory_after; bad = line }
-fails_fetch InvalidConnection old memory before memory_after line =
-    record { new = before; memory_after = memory_after; bad = line }
-fails_fetch PacketWrite old memory before memory_after line = absurd line
-fails_fetch RingWrite old memory before memory_after line = absurd line
-fails_fetch InitializationError old memory before memory_after line = absurd line
-
--- what rule 3 met
-fails_rest : (cause : Fatal) (old : PortState) (memory : List ℕ) (before : PortState) (memory_after : List ℕ)
-    → GoesOn old memory (Err cause) before memory_after → FatalTurn cause old memory
-fails_rest PacketWrite old memory before memory_after goes = (
-  record { nothing_to_fetch = goes.nothing_to_fetch; nothing_pending = goes.rest.0 },
-  record { text = goes.rest.1.0.text; is_next = goes.rest.1.0.is_next; no_room = goes.rest.1.0.no_room },
-)
-fails_rest RingRead old memory before memory_after goes = inr (
-  record { nothing_to_fetch = goes.nothing_to_fetch; nothing_pending = goes.rest.0 },
-  record {
-    text = goes.rest.1.0.text;
-    is_next = goes.rest.1.0.is_next;
-    no_descriptor =
-        goes.rest.1.0.no_descriptor;
-  },
-)
-fails_rest PacketRead old memory before memory_after goes = absurd goes.rest.1
-fails_rest CreditsExceeded old memory before memory_after goes = absurd goes.rest.1
-fails_rest InvalidConnection old memory before memory_after goes = absurd goes.rest.1
-fails_rest RingWrite old memory before memory_after goes = absurd goes.rest.1
-fails_rest InitializationError old memory before memory_after goes = absurd goes.rest.1
-
-fails_of : (cause : Fatal) (old : PortState) (memory : List ℕ) (before : PortState) (memory_after : List ℕ)
-    → Fails cause old memory before memory_after → FatalTurn cause old memory
-fails_of cause old memory before memory_after (InFetch line) =
-    fails_fetch cause old memory before memory_after line
-fails_of cause old memory before memory_after (InRest goes) =
-    fails_rest cause old memory before memory_after goes
-
 -- a message doesn't change the phase
 message_phase : (old : PortState) (message : Result GuestCommand Reply)
     → (port_with_message old message).phase ≡ old.phase
 message_phase old (Ok c) = refl
 message_phase old (Err e) = refl
 
--- a running port runs after a turn, or the turn met a cause
-running_turn : (cause : Fatal) (turn : Turn) (old new : PortState) (memory memory_after : List ℕ)
-    → old.phase ≡ Running → RunningTurn old memory turn new memory_after → new.phase ≡ Dead cause
-    → FatalTurn cause (port_turn_on old) memory
-running_turn cause Fetched old new memory memory_after p goes dead =
-    absurd (alive cause old.phase new.phase p
-    (phases new _ goes.others ∙ message_phase (port_turn_on old) (message_in old.profile goes.packet)) dead)
-running_turn cause Executed old new memory memory_after p goes dead =
-    absurd (alive cause old.phase new.phase p (phases new _ goes.rest.1.others) dead)
-running_turn cause Delivered old new memory memory_after p goes dead =
-    absurd (alive cause old.phase new.phase p (phases new _ goes.rest.1.others) dead)
-running_turn cause Notified old new memory memory_after p goes dead =
-    absurd (alive cause old.phase new.phase p (phases new _ goes.rest.1.others) dead)
-running_turn cause Idle old new memory memory_after p goes dead =
-    absurd (alive cause old.phase new.phase p (phases new _ goes.rest.1.1.state) dead)
-running_turn cause DeadTurn old new memory memory_after p goes dead =
-    subst (λ (x : Fatal). FatalTurn x (port_turn_on old) memory)
-    (same_cause goes.cause cause (sym (phases new _ goes.died) ∙ dead))
-    (fails_of goes.cause (port_turn_on old) memory goes.before memory_after goes.fails)
-
 -- a port that is dead after a turn was dead before it, or the turn met a cause
-fatal_turn : (cause : Fatal) (turn : Turn) (p : Phase) (old new : PortState) (memory memory_after : List ℕ)
-    → old.phase ≡ p → TurnEffect p old memory turn new memory_after → new.phase ≡ Dead cause
-    → (old.phase ≡ Dead cause) ⊎ ((old.phase ≡ Running) × FatalTurn cause (port_turn_on old) memory)
-fatal_turn cause turn Running old new memory memory_after p goes dead =
-    inr (p, running_turn cause turn old new memory memory_after p goes dead)
-fatal_turn cause turn (Dead before) old new memory memory_after p goes dead =
-    inl (sym (phases new old goes.unchanged.state) ∙ dead)
-fatal_turn cause turn Step1 old new memory memory_after p goes dead =
-    inl (sym (phases new old goes.unchanged.state) ∙ dead)
-fatal_turn cause turn (Step2 first) old new memory memory_after p goes dead =
-    inl (sym (phases new old goes.unchanged.state) ∙ dead)
-fatal_turn cause turn (Step3 first second) old new memory memory_after p goes dead =
-    inl (sym (phases new old goes.unchanged.state) ∙ dead)
-fatal_turn cause turn (Wrap before) old new memory memory_after p goes dead =
-    inl (sym (phases new old goes.unchanged.state) ∙ dead)
-fatal_turn cause turn PurgeTest old new memory memory_after p goes dead =
-    inl (sym (phases new old goes.unchanged.state) ∙ dead)
-fatal_turn cause turn PollTest old new memory memory_after p goes dead =
-    inl (sym (phases new old goes.unchanged.state) ∙ dead)
-fatal_turn cause turn Step4 old new memory memory_after p goes dead =
-    inl (sym (phases new old goes.unchanged.state) ∙ dead)
+fatal_turn : (cause : Fatal) (turn : Turn) (s : Step) → s.new.phase ≡ Dead cause → AnyCase turn s
+    → (s.old.phase ≡ Dead cause) ⊎ ((s.old.phase ≡ Running) × FatalTurn cause (counted s) s.memory)
+fatal_turn cause turn s dead c = by c
+  where
+    Result : Type 0
+    Result = (s.old.phase ≡ Dead cause) ⊎ ((s.old.phase ≡ Running) × FatalTurn cause (counted s) s.memory)
+
+    -- the port failed with the cause that it met
+    met : (x : Fatal) (before : PortState) → s.old.phase ≡ Running → s.new ≡ failed_port before x
+        → FatalTurn x (counted s) s.memory → Result
+    met x before runs is fatal =
+        inr (
+          runs,
+          subst (λ (y : Fatal). FatalTurn y (counted s) s.memory)
+              (same_cause x cause (sym (phases s.new (failed_port before x) is) ∙ dead)) fatal,
+        )
+
+    -- the port runs as before
+    lives : s.old.phase ≡ Running → s.new.phase ≡ s.old.phase → Result
+    lives runs same = absurd (alive cause s.old.phase s.new.phase runs same dead)
+
+    reaches : Delivers s.old s.memory → Delivers (counted s) s.memory
+    reaches r = record { nothing_to_fetch = r.nothing_to_fetch; nothing_pending = r.nothing_pending }
+
+    by : AnyCase turn s → Result
+    by (Rests rests answer same) = inl (sym (phases s.new s.old same.state) ∙ dead)
+    by (NoCommands d line same) = met RingRead (counted s) d.runs same.state (inl line)
+    by (Unreadable d line same) = met PacketRead (counted s) d.runs same.state line
+    by (Exceeds d before line is) =
+        met CreditsExceeded before d.runs is (record { new = before; memory_after = s.memory_after; bad = line })
+    by (Unconnected d before line is) =
+        met InvalidConnection before d.runs is (record { new = before; memory_after = s.memory_after; bad = line })
+    by (Fetches d line) =
+        lives d.runs (phases s.new _ line.others ∙ message_phase (counted s) (message_in s.old.profile line.packet))
+    by (Executes d nothing j is line) = lives d.runs (phases s.new _ line.others)
+    by (DeliversEnd d r line) = lives d.runs (phases s.new _ line.others)
+    by (Notifies d r line) = lives d.runs (phases s.new _ line.others)
+    by (Waits d r none same) = lives d.runs (phases s.new _ same.state)
+    by (NoResponses d r line same) = met RingRead (silent s) d.runs same.state
+        (inr (reaches r, record { text = line.text; is_next = line.is_next; no_descriptor = line.no_descriptor }))
+    by (NoRoom d r line same) = met PacketWrite (silent s) d.runs same.state
+        (reaches r, record { text = line.text; is_next = line.is_next; no_room = line.no_room })
 
 -- ---- an event, and events
 
 -- a read of IP leaves a port dead exactly if it was dead
 asked_dead : (cause : Fatal) (p : Phase) (old : PortState) → old.phase ≡ p → (port_after_ip_read p old).phase
     ≡ Dead cause → old.phase ≡ Dead cause
-asked_dead cause Running old is dead = dead
-asked_dead cause Step1 old is dead = dead
-asked_dead cause (Step2 first) old is dead = dead
-asked_dead cause (Step3 first second) old is dead = dead
-asked_dead cause (Wrap before) old is dead = dead
-asked_dead cause PurgeTest old is dead = dead
 asked_dead cause PollTest old is dead = absurd (cc)
-asked_dead cause Step4 old is dead = dead
-asked_dead cause (Dead before) old is dead = dead
+asked_dead cause _ old is dead = dead
 
 still_dead : (cause : Fatal) (p : Phase) (old : PortState) → old.phase ≡ p → old.phase ≡ Dead cause
     → (port_after_ip_read p old).phase ≡ Dead cause
-still_dead cause Running old is dead = dead
-still_dead cause Step1 old is dead = dead
-still_dead cause (Step2 first) old is dead = dead
-still_dead cause (Step3 first second) old is dead = dead
-still_dead cause (Wrap before) old is dead = dead
-still_dead cause PurgeTest old is dead = dead
 still_dead cause PollTest old is dead = absurd (cc)
-still_dead cause Step4 old is dead = dead
-still_dead cause (Dead before) old is dead = dead
+still_dead cause _ old is dead = dead
 
 -- A port that is dead after an event met a cause in it, or was dead before and the event isn't a write to IP.
 fatal_event : (cause : Fatal) (event : HostEvent) (old new : PortState) (memory memory_after : List ℕ)
@@ -281,7 +227,8 @@ fatal_event cause (WriteSa word) old new memory memory_after goes dead =
 fatal_event cause (Word address word) old new memory memory_after goes dead =
     inl ((λ is. absurd (cc)), sym (phases new old goes.0) ∙ dead)
 fatal_event cause TurnEvent old new memory memory_after goes dead =
-    elim (fatal_turn cause goes.0 old.phase old new memory memory_after refl goes.1 dead) [
+    let s : Step = record { old = old; memory = memory; new = new; memory_after = memory_after } in
+    elim (fatal_turn cause goes.0 s dead (case_of goes.0 s goes.1)) [
       | inl was ↦ inl ((λ is. absurd (cc)), was)
       | inr met ↦ inr met
     ]
@@ -331,29 +278,16 @@ dead_word : (cause : Fatal) (word : ℕ) (p : Phase) (old new : PortState) (memo
     → (new, memory_after) ≡ after_sa_write p old memory word → p ≡ Dead cause → new ≡ old
 dead_word cause word (Dead before) old new memory memory_after is dead =
     ap (λ (x : PortState × List ℕ). x.0) is
-dead_word cause word Step1 old new memory memory_after is dead = absurd (cc dead)
-dead_word cause word (Step2 first) old new memory memory_after is dead = absurd (cc dead)
-dead_word cause word (Step3 first second) old new memory memory_after is dead = absurd (cc dead)
-dead_word cause word (Wrap before) old new memory memory_after is dead = absurd (cc dead)
-dead_word cause word PurgeTest old new memory memory_after is dead = absurd (cc dead)
-dead_word cause word PollTest old new memory memory_after is dead = absurd (cc dead)
-dead_word cause word Step4 old new memory memory_after is dead = absurd (cc dead)
-dead_word cause word Running old new memory memory_after is dead = absurd (cc dead)
+dead_word cause word _ old new memory memory_after is dead = absurd (cc dead)
 
 dead_turn : (cause : Fatal) (turn : Turn) (p : Phase) (old new : PortState) (memory memory_after : List ℕ)
     → TurnEffect p old memory turn new memory_after → p ≡ Dead cause → new ≡ old
-dead_turn cause turn (Dead before) old new memory memory_after goes dead = goes.unchanged.state
-dead_turn cause turn Step1 old new memory memory_after goes dead = goes.unchanged.state
-dead_turn cause turn (Step2 first) old new memory memory_after goes dead = goes.unchanged.state
-dead_turn cause turn (Step3 first second) old new memory memory_after goes dead = goes.unchanged.state
-dead_turn cause turn (Wrap before) old new memory memory_after goes dead = goes.unchanged.state
-dead_turn cause turn PurgeTest old new memory memory_after goes dead = goes.unchanged.state
-dead_turn cause turn PollTest old new memory memory_after goes dead = goes.unchanged.state
-dead_turn cause turn Step4 old new memory memory_after goes dead = goes.unchanged.state
 dead_turn cause turn Running old new memory memory_after goes dead = absurd (not_running cause dead)
   where
     not_running : (cause : Fatal) → Running ≡ Dead cause → ⊥
     not_running cause is = cc
+dead_turn cause turn (Dead before) old new memory memory_after goes dead = goes.unchanged.state
+dead_turn cause turn _ old new memory memory_after goes dead = goes.unchanged.state
 
 dead_event : (cause : Fatal) (event : HostEvent) (old new : PortState) (memory memory_after : List ℕ)
     → EventEffect event old memory new memory_after → event ≢ WriteIp → old.phase ≡ Dead cause

@@ -14,3 +14,4 @@ pub mod MemoryUseLaws
 pub mod StartupUseLaws
 pub mod BlockUseLaws
 pub mod TurnBlockChanges
+pub mod PlanLaws

@@ -224,25 +224,12 @@ area_refused profile phase first second step = dies_of_rings profile phase (ap h
 third_interrupts : (profile : Profile) (phase : Phase) (i : Interrupts) → is_step_3 phase ≡ true
     → can_interrupt profile phase i ≡ true → can_interrupt profile Step4 i ≡ true
 third_interrupts profile (Step3 first second) i step is = by_third_word profile first second i is
-third_interrupts profile Step1 i step is = absurd (true≢false (sym step))
-third_interrupts profile (Step2 first) i step is = absurd (true≢false (sym step))
-third_interrupts profile (Wrap word) i step is = absurd (true≢false (sym step))
-third_interrupts profile PurgeTest i step is = absurd (true≢false (sym step))
-third_interrupts profile PollTest i step is = absurd (true≢false (sym step))
-third_interrupts profile Step4 i step is = absurd (true≢false (sym step))
-third_interrupts profile Running i step is = absurd (true≢false (sym step))
-third_interrupts profile (Dead cause) i step is = absurd (true≢false (sym step))
+third_interrupts profile _ i step is = absurd (true≢false (sym step))
 
 not_run_in_3 : (phase : Phase) → is_step_3 phase ≡ true → has_run phase ≡ false
-not_run_in_3 (Step3 first second) step = refl
-not_run_in_3 Step1 step = refl
-not_run_in_3 (Step2 first) step = refl
-not_run_in_3 (Wrap word) step = refl
-not_run_in_3 PurgeTest step = refl
-not_run_in_3 PollTest step = refl
-not_run_in_3 Step4 step = refl
 not_run_in_3 Running step = absurd (true≢false (sym step))
 not_run_in_3 (Dead cause) step = absurd (true≢false (sym step))
+not_run_in_3 _ step = refl
 
 -- two rings that follow the third word
 pub record AreSet (profile : Profile) (responses commands : RingState) : Type 0 where
@@ -409,13 +396,7 @@ pub ignores_read : (phase : Phase) (old : PortState) → phase ≢ PollTest → 
     → port_after_ip_read phase old ≡ old
 ignores_read PollTest old not_poll not_running = absurd (not_poll refl)
 ignores_read Running old not_poll not_running = absurd (not_running refl)
-ignores_read Step1 old not_poll not_running = refl
-ignores_read (Step2 first) old not_poll not_running = refl
-ignores_read (Step3 first second) old not_poll not_running = refl
-ignores_read (Wrap word) old not_poll not_running = refl
-ignores_read PurgeTest old not_poll not_running = refl
-ignores_read Step4 old not_poll not_running = refl
-ignores_read (Dead cause) old not_poll not_running = refl
+ignores_read _ old not_poll not_running = refl
 
 -- ---- a word that changes nothing
 

@@ -96,13 +96,7 @@ settings_by_step : (phase : Phase) (e q : Bool) (v : ℕ)
     → settings_fit phase (record { enabled = e; vector = v; requested = q || (e && nat_lt 0 v) }) ≡ true
 settings_by_step Step1 e q v is = silent_raised e q v is
 settings_by_step (Wrap word) e q v is = silent_raised e q v is
-settings_by_step (Step2 first) e q v is = is
-settings_by_step (Step3 first second) e q v is = is
-settings_by_step PurgeTest e q v is = is
-settings_by_step PollTest e q v is = is
-settings_by_step Step4 e q v is = is
-settings_by_step Running e q v is = is
-settings_by_step (Dead cause) e q v is = is
+settings_by_step _ e q v is = is
 
 -- a step of initialization may raise a request
 pub by_step : (profile : Profile) (phase : Phase) (i : Interrupts) → can_interrupt profile phase i ≡ true
@@ -149,11 +143,7 @@ has_vector_form Step1 i is = silent_vector i.enabled i.requested i.vector is
 has_vector_form (Wrap word) i is = silent_vector i.enabled i.requested i.vector is
 has_vector_form (Step2 first) i is = asked_vector first i.enabled i.requested i.vector is
 has_vector_form (Step3 first second) i is = asked_vector first i.enabled i.requested i.vector is
-has_vector_form PurgeTest i is = is
-has_vector_form PollTest i is = is
-has_vector_form Step4 i is = is
-has_vector_form Running i is = is
-has_vector_form (Dead cause) i is = is
+has_vector_form _ i is = is
 
 -- a port that dies
 pub by_death : (profile : Profile) (phase : Phase) (cause : Fatal) (i : Interrupts)
@@ -201,13 +191,7 @@ settings_served : (phase : Phase) (i : Interrupts) → settings_fit phase i ≡ 
     → settings_fit phase (served i) ≡ true
 settings_served Step1 i is = silent_served i.enabled i.requested i.vector is
 settings_served (Wrap word) i is = silent_served i.enabled i.requested i.vector is
-settings_served (Step2 first) i is = is
-settings_served (Step3 first second) i is = is
-settings_served PurgeTest i is = is
-settings_served PollTest i is = is
-settings_served Step4 i is = is
-settings_served Running i is = is
-settings_served (Dead cause) i is = is
+settings_served _ i is = is
 
 pub by_service : (profile : Profile) (phase : Phase) (i : Interrupts) → can_interrupt profile phase i ≡ true
     → can_interrupt profile phase (served i) ≡ true

@@ -14,12 +14,12 @@ use Rattle.uda_port.specs.declared.guest.Guest.{Guest}
 use Rattle.uda_port.specs.declared.interrupt.Interrupts.{Interrupts}
 use Rattle.uda_port.specs.declared.area.Area.{Area}
 use Rattle.uda_port.specs.declared.phase.Phase.{Phase}
-use Rattle.uda_port.specs.declared.phase.Phase.TheVariants.{Step1, Step2, Step3, Wrap, PurgeTest, PollTest, Step4, Running, Dead}
-use Rattle.uda_port.specs.declared.phase.Fatal.{Fatal}
-use Rattle.uda_port.specs.declared.phase.Fatal.TheVariants.{PacketRead, PacketWrite, RingRead, RingWrite, CreditsExceeded, InvalidConnection, InitializationError}
+use Rattle.uda_port.specs.declared.phase.Phase.TheVariants.{Step1, Step2, Step3, PurgeTest, PollTest, Step4, Running}
+use Rattle.uda_port.specs.declared.phase.Fatal.TheVariants.{RingWrite, CreditsExceeded, InvalidConnection, InitializationError}
 use Rattle.uda_port.specs.declared.profile.Profile.{Profile}
 use Rattle.uda_port.specs.declared.profile.Profile.TheVariants.{Strict, Compatible}
 use Rattle.uda_port.specs.declared.packet.Delivery.{Delivery}
+use Rattle.uda_port.specs.declared.packet.Fetched.{Fetched as Packet}
 use Rattle.uda_port.specs.declared.port.Port.TheInside.{Inside}
 use Rattle.uda_port.specs.declared.saved.Saved.{Saved}
 use Rattle.uda_port.specs.PortInvariant.{PortInvariant}
@@ -34,8 +34,10 @@ use Rattle.uda_port.specs.Message.{message_in, flags_kept}
 use Rattle.uda_port.specs.Port.{PortState, next_grant, credits_granted, response_indicator, command_indicator, interrupts_after, port_restarted, port_in_phase, port_after_ip_read, lacks_credit}
 use Rattle.uda_port.specs.Interrupt.{interrupts_asked}
 use Rattle.uda_port.specs.Startup.{has_bit, area_of, has_area, refuses_second, refuses_third, asks_test, after_wrap_request, after_sa_write, failed_port, port_with_rings, memory_with_area}
-use Rattle.uda_port.specs.Turn.{Unchanged, port_with_message, port_turn_on, port_not_polling, TakesPacket, FetchRule, ExecuteRule, DeliverRule, NotifyRule, LaterRulesEffect, GoesOn, Fails, InFetch, InRest, RunningTurn, Stopped, TurnEffect}
-use Rattle.uda_port.specs.Events.{EventEffect, EventsEffect}
+use Rattle.uda_port.specs.Turn.{Unchanged, port_with_message, TakesPacket, FetchesOne, DeliversOne, TurnEffect}
+use Rattle.uda_port.specs.Plan.{Step, counted, silent, Did, Rests, NoCommands, Unreadable, Exceeds, Unconnected, Fetches, Executes, DeliversEnd, Notifies, Waits, NoResponses, NoRoom}
+use Rattle.uda_port.specs.Events.{Delivers, EventEffect, EventsEffect}
+use Rattle.uda_port.proofs.PlanLaws.{AnyCase, case_of, effect_of}
 use Rattle.uda_port.specs.Possible.{has_run, has_rings, has_phase, can_interrupt, rings_fit, is_base_by, is_next_to, are_unused, is_unset, guest_fits, queue_fits, is_first_position, HasNoWork}
 use Rattle.uda_port.proofs.PossibleLaws.{first_position}
 use Rattle.uda_port.specs.Saved.{work_fits, has_no_work, profile_fits, saved_port, port_restored, is_consistent, outstanding, credits_due, lists_ops, least_deliveries, Counts, with_counts, SameButCounts, RestoredIsSaved, SameFuture}
@@ -322,263 +324,149 @@ message_deliveries : (old : PortState) (m : Result GuestCommand Reply)
 message_deliveries old (Ok c) = refl
 message_deliveries old (Err r) = refl
 
-module _ (k : Counts) (old : PortState) (begun : nat_lt 0 k.deliveries ≡ nat_lt 0 old.deliveries)
-    (memory : List ℕ)
-    (new : PortState) (memory_after : List ℕ) where
-  unchanged : Unchanged old memory new memory_after
-      → Unchanged (with_counts k old) memory (with_counts k new) memory_after
-  unchanged u = record { state = ap (with_counts k) u.state; memory_stays = u.memory_stays }
-
-  stays_begun : new ≡ old → nat_lt 0 k.deliveries ≡ nat_lt 0 new.deliveries
-  stays_begun is = same_begun k.deliveries new old is begun
-
-  takes_packet : {p : _} → TakesPacket old memory p new memory_after
-      → TakesPacket (with_counts k old) memory p (with_counts k new) memory_after
-  takes_packet t = record { looks = t.looks; takes = t.takes; others = ap (with_counts k) t.others }
-
-  fetch_rule : (r : Result Bool Fatal) → FetchRule old memory r new memory_after
-      → LeadsAlso (λ x. FetchRule (with_counts k old) memory r x memory_after) new
-  fetch_rule (Ok true) f =
-      let m = message_in old.profile f.packet in
-      let changes : FetchChanges = record {
-        commands = new.commands;
-        credits = old.credits - 1;
-        interrupts = interrupts_after old (command_indicator old memory);
-        guest = flags_kept old.profile f.packet m old.guest;
-      } in
-      record {
-        counts = one_fetched k;
-        leads = record {
-          packet = f.packet;
-          looks = f.looks;
-          takes = f.takes;
-          in_order = f.in_order;
-          credit = f.credit;
-          sequential = f.sequential;
-          others = ap (with_counts (one_fetched k)) f.others ∙ message_same k old m changes (old.fetches + 1);
-        };
-        begun = same_begun k.deliveries new _ f.others
-            (begun ∙ ap (nat_lt 0) (sym (message_deliveries old m)));
-      }
-  fetch_rule (Ok false) rule =
-      record { counts = k; leads = (rule.0, unchanged rule.1); begun = stays_begun rule.1.state }
-  fetch_rule (Err RingRead) rule = record {
-    counts = k;
-    leads = (record { looks = rule.0.looks; no_descriptor = rule.0.no_descriptor }, unchanged rule.1);
-    begun = stays_begun rule.1.state;
-  }
-  fetch_rule (Err PacketRead) rule = record {
-    counts = k;
-    leads = (record { looks = rule.0.looks; no_packet = rule.0.no_packet }, unchanged rule.1);
-    begun = stays_begun rule.1.state;
-  }
-  fetch_rule (Err CreditsExceeded) rule = record {
-    counts = k;
-    leads = record {
-      packet = rule.packet;
-      taken = takes_packet rule.taken;
-      strict = rule.strict;
-      no_credit = rule.no_credit;
-    };
-    begun = same_begun k.deliveries new _ rule.taken.others begun;
-  }
-  fetch_rule (Err InvalidConnection) rule = record {
-    counts = k;
-    leads = record {
-      packet = rule.packet;
-      taken = takes_packet rule.taken;
-      credit = rule.credit;
-      not_sequential = rule.not_sequential;
-    };
-    begun = same_begun k.deliveries new _ rule.taken.others begun;
-  }
-  fetch_rule (Err PacketWrite) rule = absurd rule
-  fetch_rule (Err RingWrite) rule = absurd rule
-  fetch_rule (Err InitializationError) rule = absurd rule
-
-  execute_rule : ExecuteRule old memory true new memory_after
-      → LeadsAlso (λ x. ExecuteRule (with_counts k old) memory true x memory_after) new
-  execute_rule rule =
-      let more = record k { load = k.load + length old.exec.pending } in
-      record {
-        counts = more;
-        leads = (
-          rule.0,
-          record {
-            end = rule.1.end;
-            executes = rule.1.executes;
-            others = ap (with_counts more) rule.1.others;
-          },
-        );
-        begun = same_begun k.deliveries new _ rule.1.others begun;
-      }
-
-  grants : next_grant k.deliveries ≡ next_grant old.deliveries
-  grants = same_grant k.deliveries old.deliveries begun
-
-  deliver_rule : (r : Result Bool Fatal) → DeliverRule old memory r new memory_after
-      → LeadsAlso (λ x. DeliverRule (with_counts k old) memory r x memory_after) new
-  deliver_rule (Ok true) d =
-      let more = record k { deliveries = k.deliveries + 1 } in
-      let granted : ℕ → Delivery = λ n. record {
-        profile = old.profile;
-        credits = n;
-        indicator = response_indicator old memory;
-      } in
-      let left : ℕ → PortState = λ n. record (with_counts more old) {
-        responses = new.responses;
-        waiting = new.waiting;
-        polling = lacks_credit old.profile old.credits || old.polling;
-        credits = old.credits + n;
-        interrupts = interrupts_after old (response_indicator old memory);
-      } in
-      record {
-        counts = more;
-        leads = record {
-          end = d.end;
-          none_due = d.none_due;
-          first = d.first;
-          puts = subst (λ (n : ℕ). Puts (granted n) old.responses memory
-              (end_text old d.end) new.responses memory_after)
-              (sym grants) d.puts;
-          legible = d.legible;
-          others = ap (with_counts more) d.others ∙ ap left (sym grants);
-        };
-        begun = same_begun (k.deliveries + 1) new _ d.others
-            (one_more k.deliveries ∙ sym (one_more old.deliveries));
-      }
-  deliver_rule (Ok false) rule =
-      record { counts = k; leads = (rule.0, unchanged rule.1); begun = stays_begun rule.1.state }
-  deliver_rule (Err RingRead) rule = record {
-    counts = k;
-    leads = (
-      record { text = rule.0.text; is_next = rule.0.is_next; no_descriptor = rule.0.no_descriptor },
-      unchanged rule.1,
-    );
-    begun = stays_begun rule.1.state;
-  }
-  deliver_rule (Err PacketWrite) rule = record {
-    counts = k;
-    leads = (record { text = rule.0.text; is_next = rule.0.is_next; no_room = rule.0.no_room }, unchanged rule.1);
-    begun = stays_begun rule.1.state;
-  }
-  deliver_rule (Err PacketRead) rule = absurd rule
-  deliver_rule (Err RingWrite) rule = absurd rule
-  deliver_rule (Err CreditsExceeded) rule = absurd rule
-  deliver_rule (Err InvalidConnection) rule = absurd rule
-  deliver_rule (Err InitializationError) rule = absurd rule
-
-  notify_rule : NotifyRule old memory (Ok true) new memory_after
-      → LeadsAlso (λ x. NotifyRule (with_counts k old) memory (Ok true) x memory_after) new
-  notify_rule rule = record {
-    counts = k;
-    leads = record {
-      drive = rule.drive;
-      text = rule.text;
-      due = rule.due;
-      message = rule.message;
-      puts = rule.puts;
-      others = ap (with_counts k) rule.others;
-    };
-    begun = same_begun k.deliveries new _ rule.others begun;
-  }
-
-  delivers : (r : Result Bool Fatal) → (old.exec.pending ≡ []) × DeliverRule old memory r new memory_after
-      → LeadsAlso (λ x. (old.exec.pending ≡ []) × DeliverRule (with_counts k old) memory r x memory_after) new
-  delivers r rule =
-      let d = deliver_rule r rule.1 in
-      record { counts = d.counts; leads = (rule.0, d.leads); begun = d.begun }
-
-  notifies : (old.exec.pending ≡ []) × NotifyRule old memory (Ok true) new memory_after
-      → LeadsAlso (λ x. (old.exec.pending ≡ [])
-      × NotifyRule (with_counts k old) memory (Ok true) x memory_after) new
-  notifies rule =
-      let d = notify_rule rule.1 in
-      record { counts = d.counts; leads = (rule.0, d.leads); begun = d.begun }
-
-  later_rules : (r : Result Turn Fatal) → LaterRulesEffect old memory r new memory_after
-      → LeadsAlso (λ x. LaterRulesEffect (with_counts k old) memory r x memory_after) new
-  later_rules (Ok Executed) rule = execute_rule rule
-  later_rules (Ok Delivered) rule = delivers (Ok true) rule
-  later_rules (Ok Notified) rule = notifies rule
-  later_rules (Ok Idle) rule = delivers (Ok false) rule
-  later_rules (Ok Fetched) rule = absurd rule
-  later_rules (Ok DeadTurn) rule = absurd rule
-  later_rules (Err cause) rule = delivers (Err cause) rule
-
-module _ (k : Counts) (old : PortState) (begun : nat_lt 0 k.deliveries ≡ nat_lt 0 old.deliveries)
-    (memory : List ℕ)
-    (new : PortState) (memory_after : List ℕ) where
-  -- the rules after the first
-  goes_on : (r : Result Turn Fatal) → GoesOn old memory r new memory_after
-      → LeadsAlso (λ x. GoesOn (with_counts k old) memory r x memory_after) new
-  goes_on r g =
-      let x = later_rules k (port_not_polling old) begun memory new memory_after r g.rest in
-      record {
-        counts = x.counts;
-        leads = record { nothing_to_fetch = g.nothing_to_fetch; rest = x.leads };
-        begun = x.begun;
-      }
-
-  fails : (cause : Fatal) → Fails cause old memory new memory_after
-      → LeadsAlso (λ x. Fails cause (with_counts k old) memory x memory_after) new
-  fails cause (InFetch rule) =
-      let x = fetch_rule k old begun memory new memory_after (Err cause) rule in
-      record { counts = x.counts; leads = InFetch x.leads; begun = x.begun }
-  fails cause (InRest rule) =
-      let x = goes_on (Err cause) rule in
-      record { counts = x.counts; leads = InRest x.leads; begun = x.begun }
-
-  stopped : (due turn : Turn) → Stopped old memory due turn new memory_after
-      → LeadsAlso (λ x. Stopped (with_counts k old) memory due turn x memory_after) new
-  stopped due turn s = record {
-    counts = k;
-    leads = record { answer = s.answer; unchanged = unchanged k old begun memory new memory_after s.unchanged };
-    begun = stays_begun k old begun memory new memory_after s.unchanged.state;
-  }
-
 abbrev one_turn : Counts → Counts
 one_turn k = record k { turns = k.turns + 1 }
 
-module _ (k : Counts) (old : PortState) (begun : nat_lt 0 k.deliveries ≡ nat_lt 0 old.deliveries)
-    (memory : List ℕ)
-    (new : PortState) (memory_after : List ℕ) where
-  -- a turn of a running port
-  running : (turn : Turn) → RunningTurn old memory turn new memory_after
-      → LeadsAlso (λ x. RunningTurn (with_counts k old) memory turn x memory_after) new
-  running Fetched rule = fetch_rule (one_turn k) (port_turn_on old) begun memory new memory_after
-      (Ok true) rule
-  running Executed rule = goes_on (one_turn k) (port_turn_on old) begun memory new memory_after
-      (Ok Executed) rule
-  running Delivered rule = goes_on (one_turn k) (port_turn_on old) begun memory new memory_after
-      (Ok Delivered) rule
-  running Notified rule = goes_on (one_turn k) (port_turn_on old) begun memory new memory_after
-      (Ok Notified) rule
-  running Idle rule = goes_on (one_turn k) (port_turn_on old) begun memory new memory_after (Ok Idle) rule
-  running DeadTurn d =
-      let x = fails (one_turn k) (port_turn_on old) begun memory d.before memory_after d.cause d.fails in
-      record {
-        counts = x.counts;
-        leads = record {
-          cause = d.cause;
-          before = with_counts x.counts d.before;
-          fails = x.leads;
-          died = ap (with_counts x.counts) d.died;
-        };
-        begun = same_begun x.counts.deliveries new _ d.died x.begun;
-      }
+-- a turn of a port with other counts
+module _ (k : Counts) (turn : Turn) (s : Step) (begun : nat_lt 0 k.deliveries ≡ nat_lt 0 s.old.deliveries) where
+  abbrev so : PortState → Step
+  so x = record { old = with_counts k s.old; memory = s.memory; new = x; memory_after = s.memory_after }
 
-  turns : (p : Phase) (turn : Turn) → TurnEffect p old memory turn new memory_after
-      → LeadsAlso (λ x. TurnEffect p (with_counts k old) memory turn x memory_after) new
-  turns Running turn rule = running turn rule
-  turns (Dead cause) turn rule = stopped k old begun memory new memory_after DeadTurn turn rule
-  turns Step1 turn rule = stopped k old begun memory new memory_after Idle turn rule
-  turns (Step2 first) turn rule = stopped k old begun memory new memory_after Idle turn rule
-  turns (Step3 first second) turn rule = stopped k old begun memory new memory_after Idle turn rule
-  turns (Wrap word) turn rule = stopped k old begun memory new memory_after Idle turn rule
-  turns PurgeTest turn rule = stopped k old begun memory new memory_after Idle turn rule
-  turns PollTest turn rule = stopped k old begun memory new memory_after Idle turn rule
-  turns Step4 turn rule = stopped k old begun memory new memory_after Idle turn rule
+  abbrev TurnsAlso : Type 0
+  TurnsAlso = LeadsAlso (λ x. AnyCase turn (so x)) s.new
+
+  abbrev once : Counts
+  once = one_turn k
+
+  -- the port is this now, and has these counts
+  leaves : (more : Counts) (now : PortState) → s.new ≡ now → nat_lt 0 more.deliveries ≡ nat_lt 0 now.deliveries
+      → AnyCase turn (so (with_counts more s.new)) → TurnsAlso
+  leaves more now is begun leads =
+      record { counts = more; leads = leads; begun = same_begun more.deliveries s.new now is begun }
+
+  with : (more : Counts) (p : PortState) → Unchanged p s.memory s.new s.memory_after
+      → Unchanged (with_counts more p) s.memory (with_counts more s.new) s.memory_after
+  with more p same = record { state = ap (with_counts more) same.state; memory_stays = same.memory_stays }
+
+  did : (wanted : Turn) → Did wanted turn s.old → Did wanted turn (with_counts k s.old)
+  did wanted d = record { runs = d.runs; answer = d.answer }
+
+  reach : Delivers s.old s.memory → Delivers (with_counts k s.old) s.memory
+  reach r = record { nothing_to_fetch = r.nothing_to_fetch; nothing_pending = r.nothing_pending }
+
+  takes : (p : Packet) (before : PortState) → TakesPacket (counted s) s.memory p before s.memory_after
+      → TakesPacket (with_counts once (counted s)) s.memory p (with_counts once before) s.memory_after
+  takes p before t = record { looks = t.looks; takes = t.takes; others = ap (with_counts once) t.others }
+
+  grants : next_grant k.deliveries ≡ next_grant s.old.deliveries
+  grants = same_grant k.deliveries s.old.deliveries begun
+
+  fetched : Did Fetched turn s.old → FetchesOne (counted s) s.memory s.new s.memory_after → TurnsAlso
+  fetched d f =
+      let m = message_in s.old.profile f.packet in
+      let more = one_fetched once in
+      let changes : FetchChanges = record {
+        commands = s.new.commands;
+        credits = s.old.credits - 1;
+        interrupts = interrupts_after s.old (command_indicator s.old s.memory);
+        guest = flags_kept s.old.profile f.packet m s.old.guest;
+      } in
+      leaves more _ f.others (begun ∙ ap (nat_lt 0) (sym (message_deliveries (counted s) m)))
+      (Fetches (did Fetched d) (record {
+        packet = f.packet;
+        looks = f.looks;
+        takes = f.takes;
+        in_order = f.in_order;
+        credit = f.credit;
+        sequential = f.sequential;
+        others = ap (with_counts more) f.others ∙ message_same once (counted s) m changes (s.old.fetches + 1);
+      }))
+
+  delivered : Did Delivered turn s.old → Delivers s.old s.memory
+      → DeliversOne (silent s) s.memory s.new s.memory_after → TurnsAlso
+  delivered d r line =
+      let more = record once { deliveries = k.deliveries + 1 } in
+      let granted : ℕ → Delivery = λ n. record {
+        profile = s.old.profile;
+        credits = n;
+        indicator = response_indicator s.old s.memory;
+      } in
+      let left : ℕ → PortState = λ n. record (with_counts more (silent s)) {
+        responses = s.new.responses;
+        waiting = s.new.waiting;
+        polling = lacks_credit s.old.profile s.old.credits || false;
+        credits = s.old.credits + n;
+        interrupts = interrupts_after s.old (response_indicator s.old s.memory);
+      } in
+      leaves more _ line.others (one_more k.deliveries ∙ sym (one_more s.old.deliveries))
+      (DeliversEnd (did Delivered d) (reach r) (record {
+        end = line.end;
+        none_due = line.none_due;
+        first = line.first;
+        puts = subst (λ (n : ℕ). Puts (granted n) s.old.responses s.memory (end_text s.old line.end) s.new.responses
+            s.memory_after) (sym grants) line.puts;
+        legible = line.legible;
+        others = ap (with_counts more) line.others ∙ ap left (sym grants);
+      }))
+
+  turns_also : AnyCase turn s → TurnsAlso
+  turns_also (Rests rests answer same) = leaves k s.old same.state begun (Rests rests answer (with k s.old same))
+  turns_also (NoCommands d line same) =
+      leaves once _ same.state begun (NoCommands (did DeadTurn d)
+      (record { looks = line.looks; no_descriptor = line.no_descriptor }) (with once _ same))
+  turns_also (Unreadable d line same) =
+      leaves once _ same.state begun (Unreadable (did DeadTurn d)
+      (record { looks = line.looks; no_packet = line.no_packet }) (with once _ same))
+  turns_also (Exceeds d before line is) =
+      leaves once _ (is ∙ ap (λ (p : PortState). failed_port p CreditsExceeded) line.taken.others) begun
+      (Exceeds (did DeadTurn d) (with_counts once before) (record {
+        packet = line.packet;
+        taken = takes line.packet before line.taken;
+        strict = line.strict;
+        no_credit = line.no_credit;
+      }) (ap (with_counts once) is))
+  turns_also (Unconnected d before line is) =
+      leaves once _ (is ∙ ap (λ (p : PortState). failed_port p InvalidConnection) line.taken.others) begun
+      (Unconnected (did DeadTurn d) (with_counts once before) (record {
+        packet = line.packet;
+        taken = takes line.packet before line.taken;
+        credit = line.credit;
+        not_sequential = line.not_sequential;
+      }) (ap (with_counts once) is))
+  turns_also (Fetches d line) = fetched d line
+  turns_also (Executes d nothing j is line) =
+      let more = record once { load = k.load + length s.old.exec.pending } in
+      leaves more _ line.others begun (Executes (did Executed d) nothing j is
+      (record { end = line.end; executes = line.executes; others = ap (with_counts more) line.others }))
+  turns_also (DeliversEnd d r line) = delivered d r line
+  turns_also (Notifies d r line) =
+      leaves once _ line.others begun (Notifies (did Notified d) (reach r) (record {
+        drive = line.drive;
+        text = line.text;
+        due = line.due;
+        message = line.message;
+        puts = line.puts;
+        others = ap (with_counts once) line.others;
+      }))
+  turns_also (Waits d r none same) =
+      leaves once _ same.state begun (Waits (did Idle d) (reach r) none (with once _ same))
+  turns_also (NoResponses d r line same) =
+      leaves once _ same.state begun (NoResponses (did DeadTurn d) (reach r)
+      (record { text = line.text; is_next = line.is_next; no_descriptor = line.no_descriptor }) (with once _ same))
+  turns_also (NoRoom d r line same) =
+      leaves once _ same.state begun (NoRoom (did DeadTurn d) (reach r)
+      (record { text = line.text; is_next = line.is_next; no_room = line.no_room }) (with once _ same))
+
+turns : (k : Counts) (turn : Turn) (s : Step) → nat_lt 0 k.deliveries ≡ nat_lt 0 s.old.deliveries
+    → TurnEffect s.old.phase s.old s.memory turn s.new s.memory_after
+    → LeadsAlso (λ x. TurnEffect s.old.phase (with_counts k s.old) s.memory turn x s.memory_after) s.new
+turns k turn s begun goes =
+    let x = turns_also k turn s begun (case_of turn s goes) in
+    record {
+      counts = x.counts;
+      leads = effect_of (λ j. Unit {0}) turn (so k turn s begun (with_counts x.counts s.new)) x.leads;
+      begun = x.begun;
+    }
 
 -- ---- a word of initialization
 
@@ -657,24 +545,14 @@ module _ (k : Counts) (old : PortState) where
       let area = area_of old.profile first second word in
       step3_same (refuses_third old.profile word) (has_area area (length memory))
       (asks_test old.profile word) area memory
-  words_same (Wrap before) memory word = refl
   words_same PurgeTest memory word = beside memory (purge_same (word == 0))
-  words_same PollTest memory word = refl
   words_same Step4 memory word = beside memory (step4_same (has_bit word 0))
-  words_same Running memory word = refl
-  words_same (Dead cause) memory word = refl
+  words_same _ memory word = refl
 
   ip_read_same : (p : Phase) → port_after_ip_read p (with_counts k old)
       ≡ with_counts k (port_after_ip_read p old)
   ip_read_same Running = refl
-  ip_read_same PollTest = refl
-  ip_read_same Step1 = refl
-  ip_read_same (Step2 first) = refl
-  ip_read_same (Step3 first second) = refl
-  ip_read_same (Wrap word) = refl
-  ip_read_same PurgeTest = refl
-  ip_read_same Step4 = refl
-  ip_read_same (Dead cause) = refl
+  ip_read_same _ = refl
 
 abbrev counts_of : PortState → Counts
 counts_of p = record { turns = p.turns; fetches = p.fetches; deliveries = p.deliveries; load = p.load }
@@ -718,7 +596,8 @@ module _ (k : Counts) (old : PortState) (begun : nat_lt 0 k.deliveries ≡ nat_l
     begun = same_begun k.deliveries new old effect.0 begun;
   }
   event TurnEvent effect =
-      let x = turns k old begun memory new memory_after old.phase effect.0 effect.1 in
+      let s : Step = record { old = old; memory = memory; new = new; memory_after = memory_after } in
+      let x = turns k effect.0 s begun effect.1 in
       record { counts = x.counts; leads = (effect.0, x.leads); begun = x.begun }
 
 all_events : (events : List HostEvent) (k : Counts) (old : PortState) (memory : List ℕ) (new : PortState)
@@ -727,8 +606,8 @@ all_events : (events : List HostEvent) (k : Counts) (old : PortState) (memory : 
     → LeadsAlso (λ x. EventsEffect events (with_counts k old) memory x memory_after) new
 all_events [] k old memory new memory_after begun effect = record {
   counts = k;
-  leads = unchanged k old begun memory new memory_after effect;
-  begun = stays_begun k old begun memory new memory_after effect.state;
+  leads = record { state = ap (with_counts k) effect.state; memory_stays = effect.memory_stays };
+  begun = same_begun k.deliveries new old effect.state begun;
 }
 all_events (e ∷ rest) k old memory new memory_after begun effect =
     let between = effect.0 in
@@ -756,7 +635,8 @@ pub same_future : SameFuture
 same_future = record {
   turns = λ a b memory turn new memory_after same effect.
       let x = also a b (λ p q. TurnEffect p.phase p memory turn q memory_after) same new
-      (turns same.counts a same.begun memory new memory_after a.phase turn effect) in
+      (turns same.counts turn (record { old = a; memory = memory; new = new; memory_after = memory_after }) same.begun
+      effect) in
       record { left = with_counts x.counts new; effect = x.leads; same = same_again _ new x };
   events = λ events a b memory new memory_after same effect.
       let x = also a b (λ p q. EventsEffect events p memory q memory_after) same new

@@ -10,7 +10,7 @@ use Rattle.uda_mem.proofs.RangeLaws.{Write, ranges_of, length-carried, carried_p
 use Rattle.uda_port.specs.declared.area.Area.{Area}
 use Rattle.uda_port.specs.declared.phase.Fatal.TheVariants.{InitializationError, RingWrite}
 use Rattle.uda_port.specs.declared.phase.Phase.{Phase}
-use Rattle.uda_port.specs.declared.phase.Phase.TheVariants.{Step1, Step2, Step3, Wrap, PurgeTest, PollTest, Step4, Running, Dead}
+use Rattle.uda_port.specs.declared.phase.Phase.TheVariants.{Step3}
 use Rattle.uda_port.specs.Port.{PortState}
 use Rattle.uda_port.specs.Startup.{area_of, has_area, rings_size, refuses_third, after_third, after_sa_write, failed_port, port_with_rings, memory_with_area}
 use Rattle.uda_port.specs.StartupUse.{area_range, range_zeroed, WordEffect, WordIsLocal}
@@ -96,14 +96,7 @@ word_left : (p : Phase) (old : PortState) (memory : List ℕ) (word : ℕ) (afte
     → after ≡ after_sa_write p old memory word
     → Left (range_zeroed p old memory word) memory after (λ other. after_sa_write p old other word)
 word_left (Step3 first second) old memory word after is = third_word old memory first second word after is
-word_left Step1 old memory word after is = leaves _ memory after is
-word_left (Step2 first) old memory word after is = leaves _ memory after is
-word_left (Wrap before) old memory word after is = leaves _ memory after is
-word_left PurgeTest old memory word after is = leaves _ memory after is
-word_left PollTest old memory word after is = leaves _ memory after is
-word_left Step4 old memory word after is = leaves _ memory after is
-word_left Running old memory word after is = leaves _ memory after is
-word_left (Dead cause) old memory word after is = leaves _ memory after is
+word_left _ old memory word after is = leaves _ memory after is
 
 -- a memory without bytes stays one
 no_bytes : (bytes : List ℕ) → length bytes ≡ 0 → bytes ≡ []

@@ -33,15 +33,10 @@ traces_from old other new (Dead cause) exec waiting it = it
 -- a command that is ended at once was fetched
 pub traces_answer : (old new : PortState) (trace : Trace) → TracesAnswer trace old.waiting new.waiting
     → Reports turn.Fetched trace old new
-traces_answer old new (Fetched g) it = absurd it
 traces_answer old new (InvalidCommand e) it = record { turn_is = refl; accurate = it }
 traces_answer old new (Answered e) it = record { turn_is = refl; accurate = it }
 traces_answer old new (Aborted e) it = record { turn_is = refl; accurate = it }
-traces_answer old new (Executed e) it = absurd it
-traces_answer old new (Delivered e) it = absurd it
-traces_answer old new Notified it = absurd it
-traces_answer old new Idle it = absurd it
-traces_answer old new (Dead cause) it = absurd it
+traces_answer old new _ it = absurd it
 
 -- a report depends on the same
 pub reports_from : (old other new : PortState) (taken : Turn) (trace : Trace) → other.exec ≡ old.exec

@@ -19,7 +19,7 @@ use Rattle.uda_port.specs.declared.profile.Profile.TheVariants.{Strict, Compatib
 use Rattle.uda_port.specs.Message.{message_in}
 use Rattle.uda_port.specs.declared.phase.Fatal.{Fatal}
 use Rattle.uda_port.specs.declared.turn.Turn.{Turn}
-use Rattle.uda_port.specs.declared.turn.Turn.TheVariants.{Fetched, Executed, Delivered, Notified, Idle, Dead}
+use Rattle.uda_port.specs.declared.turn.Turn.TheVariants.{Fetched, Dead}
 use Rattle.uda_port.specs.Port.{PortState, lacks_credit}
 use Rattle.uda_port.specs.Report.{attention_text, end_text, next_by, next_text}
 use Rattle.uda_port.specs.Turn.{port_turn_on, GoesOn, InRest, FirstRuleEffect, RunningTurn, ExecutesFor, ExecutesStrictly}
@@ -27,23 +27,15 @@ use Rattle.uda_port.specs.Turn.{port_turn_on, GoesOn, InRest, FirstRuleEffect, R
 pub running_turn : (old : PortState) (memory : List ℕ) (turn : Turn) (new : PortState) (memory_after : List ℕ)
     → FirstRuleEffect (port_turn_on old) memory (Ok turn) new memory_after
     → RunningTurn old memory turn new memory_after
-running_turn old memory Fetched new memory_after goes = goes
-running_turn old memory Executed new memory_after goes = goes
-running_turn old memory Delivered new memory_after goes = goes
-running_turn old memory Notified new memory_after goes = goes
-running_turn old memory Idle new memory_after goes = goes
 running_turn old memory Dead new memory_after goes = absurd goes.rest
+running_turn old memory _ new memory_after goes = goes
 
 pub goes_on : (old : PortState) (memory : List ℕ) (result : Result Turn Fatal) (new : PortState)
     (memory_after : List ℕ)
     → GoesOn old memory result new memory_after → FirstRuleEffect old memory result new memory_after
 goes_on old memory (Ok Fetched) new memory_after goes = absurd goes.rest
-goes_on old memory (Ok Executed) new memory_after goes = goes
-goes_on old memory (Ok Delivered) new memory_after goes = goes
-goes_on old memory (Ok Notified) new memory_after goes = goes
-goes_on old memory (Ok Idle) new memory_after goes = goes
-goes_on old memory (Ok Dead) new memory_after goes = goes
 goes_on old memory (Err cause) new memory_after goes = InRest goes
+goes_on old memory _ new memory_after goes = goes
 
 -- the next text is that of an attention message that is due, or else of the first queued end message
 pub attention_first : (port : PortState) (text : List ℕ) → attention_text port ≡ Some text

@@ -54,8 +54,8 @@ ComesNearer old turn new = turns_to_notify new < turns_to_notify old
 
 -- ---- the law
 
--- Such a turn, after which the port isn't dead. Before it the host may have changed memory and read IP, and its processor
--- may have taken an interrupt.
+-- Such a turn, after which the port isn't dead. Before it the host may have changed memory and read IP, and its
+-- processor may have taken an interrupt.
 pub record UndeliveredTurn (old new : PortState) : Type 0 where
   pub memory : List ℕ
   pub may : MayNotify old memory

@@ -9,7 +9,8 @@ use Rattle.uda_port.specs.declared.memory_use.Access.TheVariants.{Execute}
 use Rattle.uda_port.specs.declared.memory_use.Missing.{Missing}
 use Rattle.uda_port.specs.declared.turn_at.Fate.{Fate}
 use Rattle.uda_port.specs.declared.turn_at.Fate.TheVariants.{Usual, WithoutBuffer}
-use Rattle.uda_port.specs.MemoryUse.{use_of, fate_of}
+use Rattle.uda_port.specs.MemoryUse.{access_of, fate_of}
+use Rattle.uda_port.specs.Plan.{plan_of}
 use Rattle.uda_port.specs.Port.{PortState}
 
 -- the memory in which a turn with this fate executes a command
@@ -23,10 +24,10 @@ abbrev pub memory_executed : Access → Fate → List ℕ → Option (List ℕ)
 memory_executed Execute fate memory = memory_by fate memory
 memory_executed _ fate memory = None
 
--- the memory in which the next turn executes the pending command at an index, if it executes one
-abbrev pub memory_for : Missing → PortState → List ℕ → ℕ → Option (List ℕ)
-memory_for missing port memory j =
-    memory_executed (use_of port memory j).access (fate_of missing port memory) memory
+-- the memory in which the next turn executes a pending command, if it executes one
+abbrev pub memory_for : Missing → PortState → List ℕ → Option (List ℕ)
+memory_for missing port memory =
+    memory_executed (access_of (plan_of port memory)) (fate_of missing port memory) memory
 
 -- the blocks that this command then uses, and the bytes that it writes to them
 abbrev pub blocks_in : ExecState → ℕ → Option (List ℕ) → Option BlockUse
@@ -39,7 +40,7 @@ written_in exec j (Some memory) = written_at exec j memory
 
 -- the blocks that the next turn uses, and the bytes that it writes to them
 abbrev pub blocks_of : Missing → PortState → List ℕ → ℕ → Option BlockUse
-blocks_of missing port memory j = blocks_in port.exec j (memory_for missing port memory j)
+blocks_of missing port memory j = blocks_in port.exec j (memory_for missing port memory)
 
 abbrev pub block_bytes_of : Missing → PortState → List ℕ → ℕ → List ℕ
-block_bytes_of missing port memory j = written_in port.exec j (memory_for missing port memory j)
+block_bytes_of missing port memory j = written_in port.exec j (memory_for missing port memory)

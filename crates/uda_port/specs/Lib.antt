@@ -15,6 +15,7 @@ pub mod StartupUse
 pub mod Trace
 pub mod Turn
 pub mod Attention
+pub mod Plan
 pub mod MemoryUse
 pub mod Events
 pub mod Display

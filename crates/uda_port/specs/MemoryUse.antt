@@ -1,7 +1,7 @@
 -- What a turn reads and writes of host memory. A caller with memory through map registers copies only that.
 -- UDA50 Programmer's Documentation Kit: command ring polling, message envelopes, UNIBUS addresses.
 use Rattle.std.specs.Prelude.{◌≡◌, ◌≤◌, ◌<◌, ℕ, ◌+◌, ◌-◌, ◌%◌, min, max, Bool, true, false, ◌&&◌, nat_eq, nat_le, List, [], ◌∷◌, length}
-use Rattle.std.specs.Prelude.{Option, Some, None, option_map, if◌then◌else◌, All, ⊤}
+use Rattle.std.specs.Prelude.{Option, Some, None, if◌then◌else◌, All, ⊤}
 use Rattle.uda_mem.specs.declared.range.ByteRange.{ByteRange}
 use Rattle.uda_mem.specs.Ranges.{EMPTY_RANGE, range_in, SameIn, carried}
 use Rattle.uda_mem.specs.Words.{word_at}
@@ -16,7 +16,6 @@ use Rattle.uda_port.specs.declared.memory_use.Missing.{Missing}
 use Rattle.uda_port.specs.declared.turn_at.TurnTaken.{TurnTaken}
 use Rattle.uda_port.specs.declared.turn_at.Fate.{Fate}
 use Rattle.uda_port.specs.declared.turn_at.Fate.TheVariants.{Usual, FailsInFetch, FailsLater, WithoutBuffer}
-use Rattle.uda_port.specs.declared.descriptor.Descriptor.{Descriptor}
 use Rattle.uda_port.specs.declared.phase.Fatal.{Fatal}
 use Rattle.uda_port.specs.declared.phase.Fatal.TheVariants.{PacketRead, PacketWrite, RingRead}
 use Rattle.uda_port.specs.declared.phase.Phase.{Phase}
@@ -26,10 +25,10 @@ use Rattle.uda_port.specs.declared.profile.Profile.TheVariants.{Strict, Compatib
 use Rattle.uda_port.specs.declared.turn.Turn.{Turn}
 use Rattle.uda_port.specs.declared.turn.Turn.TheVariants.{Executed, Dead}
 use Rattle.uda_port.specs.Possible.{CanDie}
-use Rattle.uda_port.specs.Ring.{is_owned, RingState, descriptor_address, next_descriptor}
+use Rattle.uda_port.specs.Ring.{RingState, descriptor_address}
 use Rattle.uda_port.specs.Interrupt.{ring_before}
 use Rattle.uda_port.specs.Packet.{text_address}
-use Rattle.uda_port.specs.Report.{next_text}
+use Rattle.uda_port.specs.Plan.{Plan, ToFetch, ToExecute, ToWait, NoResponseRing, ToDeliver, plan_of}
 use Rattle.uda_port.specs.Port.{PortState, command_indicator, response_indicator}
 use Rattle.uda_port.specs.Startup.{failed_port}
 use Rattle.uda_port.specs.Turn.{TurnEffect, ExecutesOne, may_fetch, port_turn_on, port_not_polling}
@@ -61,6 +60,15 @@ abbrev pub NONE_WRITTEN : List ByteRange
 NONE_WRITTEN = EMPTY_RANGE ∷ EMPTY_RANGE ∷ EMPTY_RANGE ∷ EMPTY_RANGE ∷ []
 
 -- ---- what the next turn uses
+
+-- what a turn does with memory, by its plan
+abbrev pub access_of : Plan → Access
+access_of (ToFetch d) = Fetch
+access_of ToExecute = Execute
+access_of (ToDeliver d n) = Deliver
+access_of ToWait = Wait
+access_of NoResponseRing = Wait
+access_of _ = Nothing
 
 -- nothing but the descriptors
 abbrev pub no_use : Access → MemoryUse
@@ -121,44 +129,17 @@ delivery_use port memory text = record {
   written = written_by_delivery port memory text (has_room port.profile memory text.at text.bytes);
 }
 
--- a message of n bytes waits for this response descriptor
-abbrev pub message_use : PortState → List ℕ → ℕ → Option Descriptor → MemoryUse
-message_use port memory n None = no_use Wait
-message_use port memory n (Some d) =
-    if is_owned d then delivery_use port memory (record { at = text_address port.profile d; bytes = n })
-    else no_use Wait
-
--- nothing is fetched: the pending command at index j is executed, or else a message of this length delivered
-abbrev pub later_use : PortState → List ℕ → ℕ → List Command → Option ℕ → MemoryUse
-later_use port memory j (c ∷ cs) size = command_use memory (buffer_use_at port.exec j)
-later_use port memory j [] None = no_use Nothing
-later_use port memory j [] (Some n) = message_use port memory n (next_descriptor memory port.responses)
-
--- the number of bytes of the next message, if there is one
-abbrev pub next_size : PortState → Option ℕ
-next_size port = option_map (λ text. length text) (next_text port)
-
-abbrev pub use_without_fetch : PortState → List ℕ → ℕ → MemoryUse
-use_without_fetch port memory j = later_use port memory j port.exec.pending (next_size port)
-
--- the next command descriptor is this
-abbrev pub use_found : PortState → List ℕ → ℕ → Option Descriptor → MemoryUse
-use_found port memory j None = no_use Nothing
-use_found port memory j (Some d) =
-    if is_owned d then fetch_use port memory (text_address port.profile d) else use_without_fetch port memory j
-
--- the port may fetch, or may not
-abbrev pub use_running : PortState → List ℕ → ℕ → Bool → MemoryUse
-use_running port memory j true = use_found port memory j (next_descriptor memory port.commands)
-use_running port memory j false = use_without_fetch port memory j
-
-abbrev pub use_in : Phase → PortState → List ℕ → ℕ → MemoryUse
-use_in Running port memory j = use_running port memory j (may_fetch port)
-use_in _ port memory j = no_use Nothing
+-- what a plan uses, if it executes the pending command at index j
+abbrev pub use_by : PortState → List ℕ → ℕ → Plan → MemoryUse
+use_by port memory j (ToFetch d) = fetch_use port memory (text_address port.profile d)
+use_by port memory j ToExecute = command_use memory (buffer_use_at port.exec j)
+use_by port memory j (ToDeliver d n) =
+    delivery_use port memory (record { at = text_address port.profile d; bytes = n })
+use_by port memory j plan = no_use (access_of plan)
 
 -- what the next turn uses, if it executes the pending command at index j when it executes one
 abbrev pub use_of : PortState → List ℕ → ℕ → MemoryUse
-use_of port memory j = use_in port.phase port memory j
+use_of port memory j = use_by port memory j (plan_of port memory)
 
 -- ---- addresses that lead nowhere
 
@@ -181,10 +162,9 @@ abbrev pub fate_in : Phase → Missing → Bool → Access → Fate
 fate_in Running missing polls access = fate_running missing polls access
 fate_in _ missing polls access = Usual
 
--- How the next turn goes. It follows from what the turn does (`Access`). The index of a command says which one is
--- executed, and not whether one is. So what the turn does is the same for each index, and is taken for index 0.
+-- how the next turn goes, by what it does
 abbrev pub fate_of : Missing → PortState → List ℕ → Fate
-fate_of missing port memory = fate_in port.phase missing (may_fetch port) (use_of port memory 0).access
+fate_of missing port memory = fate_in port.phase missing (may_fetch port) (access_of (plan_of port memory))
 
 -- a port of this profile and in this phase can have this fate
 abbrev pub CanFail : Profile → Phase → Fate → Type 0

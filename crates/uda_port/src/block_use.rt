@@ -52,7 +52,7 @@ impl<S: BlockStore> Port<S> {
     // Returns the memory in which the next turn executes the pending command at this index, if it executes one.
     fn memory_for<'m>(&self, memory: &'m [u8], place: usize, missing: Missing) -> Option<&'m [u8]>
         requires memory { IsMemory memory.now }
-        ensures memory { option_map (λ m. m.now) result ≡ memory_for missing self.now memory.now place }
+        ensures memory { option_map (λ m. m.now) result ≡ memory_for missing self.now memory.now }
         ensures valid { IfSome result (λ m. IsMemory m.now) }
     {
         let access = self.memory_use(memory, place).access;

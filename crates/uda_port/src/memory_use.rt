@@ -8,12 +8,12 @@ ghost use Rattle.uda_exec.specs.Disks.{PENDING_LIMIT};
 ghost use Rattle.uda_port.specs.Fetch.{IsNext};
 ghost use Rattle.uda_port.specs.Interrupt.{ring_before};
 ghost use Rattle.uda_port.specs.Packet.{text_address};
-ghost use Rattle.uda_port.specs.Ring.{descriptor_address};
+ghost use Rattle.uda_port.specs.Ring.{descriptor_address, next_descriptor};
 ghost use Rattle.uda_port.specs.Turn.{may_fetch};
 ghost use Rattle.uda_port.specs.MemoryUse.{IsPlace, descriptor_ranges, packet_range, indicator_range, returned_range};
 ghost use Rattle.uda_port.specs.MemoryUse.{no_use, fetch_use, written_by_fetch, has_text, command_use, delivery_use};
-ghost use Rattle.uda_port.specs.MemoryUse.{written_by_delivery, has_room, use_without_fetch, use_running, use_of};
-ghost use Rattle.uda_port.specs.MemoryUse.{looked_up, next_size, AgreesInDescriptors};
+ghost use Rattle.uda_port.specs.MemoryUse.{has_room, looked_up, use_by, use_of, AgreesInDescriptors};
+ghost use Rattle.uda_port.specs.Plan.{plan_running, later_plan, next_size};
 
 use crate::descriptor::Descriptor;
 use crate::packet::{TEXT, has_room, has_text};
@@ -126,7 +126,8 @@ impl<S: BlockStore> Port<S> {
     // Returns what a running port uses.
     fn use_running(&self, memory: &[u8], place: usize) -> MemoryUse
         requires memory { IsMemory memory.now }
-        ensures uses { result ≡ use_running self.now memory.now place (may_fetch self.now) }
+        ensures uses { result ≡ use_by self.now memory.now place (plan_running (may_fetch self.now)
+            (next_descriptor memory.now self.now.commands) (later_plan self.now memory.now)) }
         ensures body_within { LiesIn memory.now result.body }
         ensures written_within { All (LiesIn memory.now) result.written }
     {
@@ -179,7 +180,7 @@ impl<S: BlockStore> Port<S> {
     // Returns what a port uses that fetches nothing.
     fn use_without_fetch(&self, memory: &[u8], place: usize) -> MemoryUse
         requires memory { IsMemory memory.now }
-        ensures uses { result ≡ use_without_fetch self.now memory.now place }
+        ensures uses { result ≡ use_by self.now memory.now place (later_plan self.now memory.now) }
         ensures body_within { LiesIn memory.now result.body }
         ensures written_within { All (LiesIn memory.now) result.written }
     {

@@ -8,10 +8,11 @@ ghost use Rattle.uda_disk.specs.Units.{AreWellFormed};
 ghost use Rattle.uda_exec.specs.Order.{IsEligible};
 ghost use Rattle.uda_exec.specs.BlockChanges.{ChangesOnly};
 ghost use Rattle.uda_port.specs.BlockUse.{blocks_of, block_bytes_of};
+ghost use Rattle.uda_port.specs.Plan.{plan_of};
 ghost use Rattle.uda_port.specs.Port.{CreditsAgree};
 ghost use Rattle.uda_port.specs.Trace.{Reports, Traces, turn_of};
 ghost use Rattle.uda_port.specs.Turn.{may_fetch, port_turn_on, port_not_polling};
-ghost use Rattle.uda_port.specs.MemoryUse.{use_of, fate_at, fate_running, fate_in, FailsUnread, ExecutesWithout};
+ghost use Rattle.uda_port.specs.MemoryUse.{access_of, fate_at, fate_running, fate_in, FailsUnread, ExecutesWithout};
 ghost use Rattle.uda_port.specs.MemoryUse.{EffectBy, EffectWithout, written_by_fate, IsLocal, IsPlace};
 ghost use Rattle.uda_port.specs.MemoryUse.{HasValidRings, CanFail, Agrees, written_of};
 ghost use Rattle.uda_port.specs.Possible.{CanDie};
@@ -165,7 +166,7 @@ impl<S: BlockStore> Port<S> {
     // Runs a turn by its plan.
     fn turn_by(&mut self, memory: &mut [u8], plan: TurnPlan, trace: &mut Trace) -> Turn
         requires memory { IsMemory memory.old }
-        requires access { plan.access ≡ (use_of self.old memory.old plan.place).access }
+        requires access { plan.access ≡ access_of (plan_of self.old memory.old) }
         requires place { IsPlace self.old.exec.pending plan.place }
         requires buffer { plan.fate ≡ WithoutBuffer → plan.access ≡ Execute }
         requires dies { CanFail self.old.profile self.old.phase plan.fate }

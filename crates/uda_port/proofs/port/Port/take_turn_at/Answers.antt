@@ -5,8 +5,8 @@ use Rattle.uda_mem.specs.declared.range.ByteRange.{ByteRange}
 use Rattle.uda_port.specs.declared.memory_use.MemoryUse.{MemoryUse}
 use Rattle.uda_port.specs.declared.turn_at.Fate.{Fate}
 use Rattle.uda_port.specs.Turn.{may_fetch}
-use Rattle.uda_port.specs.MemoryUse.{fate_in, CanFail, EffectBy, IsLocal, written_by_fate}
-use Rattle.uda_port.proofs.MemoryUseLaws.{access_any, is_local, without_buffer, fate_fails, fate_lies, written_there}
+use Rattle.uda_port.specs.MemoryUse.{CanFail, EffectBy, IsLocal, written_by_fate}
+use Rattle.uda_port.proofs.MemoryUseLaws.{fate_is, use_access, is_local, without_buffer, fate_fails, fate_lies, written_there}
 use Rattle.uda_port.proofs.TurnBlockChanges.{turn_changes}
 use Rattle.uda_port.proofs.port.Port.take_turn_at.Goals as goal
 
@@ -14,9 +14,8 @@ pub returns-clause-effect : goal.returns-clause-effect
 returns-clause-effect g c =
     let old = c.args.self.now in
     let uses = c.memory_use-uses.ensures.uses in
-    let access = access_any old c.args.memory.now 0 c.args.place
-    ∙ sym (ap (λ (u : MemoryUse). u.access) uses) in
-    let fate = ap (fate_in old.phase c.args.missing (may_fetch old)) access ∙ sym c.fate-fate.ensures in
+    let fate = fate_is c.args.missing old c.args.memory.now c.args.place c.memory_use-uses.result uses
+    ∙ sym c.fate-fate.ensures in
     subst
     (λ (f : Fate). EffectBy f c.args.place (old, c.args.memory.now) c.turn_by-turn.result
     (c.turn_by-turn.new.self, c.turn_by-turn.new.memory)) (sym fate) c.turn_by-turn.ensures.effect
@@ -26,8 +25,7 @@ returns-clause-local g c =
     let old = c.args.self.now in
     let memory = c.args.memory.now in
     let uses = c.memory_use-uses.ensures.uses in
-    let access = access_any old memory 0 c.args.place ∙ sym (ap (λ (u : MemoryUse). u.access) uses) in
-    let fate = ap (fate_in old.phase c.args.missing (may_fetch old)) access ∙ sym c.fate-fate.ensures in
+    let fate = fate_is c.args.missing old memory c.args.place c.memory_use-uses.result uses ∙ sym c.fate-fate.ensures in
     let local = is_local c.args.missing c.args.place old memory c.turn_by-turn.result c.turn_by-turn.new.self
     c.turn_by-turn.new.memory c.fate-fate.result c.rings_are_valid.ensures.valid fate
     c.turn_by-turn.ensures.effect in
@@ -40,7 +38,8 @@ returns-clause-local g c =
 
 pub turn_by-turn-requires : goal.turn_by-turn-requires
 turn_by-turn-requires g c =
-    let access = ap (λ (u : MemoryUse). u.access) c.memory_use-uses.ensures.uses in (
+    let access = use_access c.args.self.now c.args.memory.now c.args.place c.memory_use-uses.result
+    c.memory_use-uses.ensures.uses in (
       search rules,
       (
         c.requires.memory,
@@ -71,8 +70,7 @@ returns-clause-written g c =
     let old = c.args.self.now in
     let memory = c.args.memory.now in
     let uses = c.memory_use-uses.ensures.uses in
-    let access = access_any old memory 0 c.args.place ∙ sym (ap (λ (u : MemoryUse). u.access) uses) in
-    let fate = ap (fate_in old.phase c.args.missing (may_fetch old)) access ∙ sym c.fate-fate.ensures in
+    let fate = fate_is c.args.missing old memory c.args.place c.memory_use-uses.result uses ∙ sym c.fate-fate.ensures in
     λ other agrees. c.written_by_fate.ensures
     ∙ ap₂ written_by_fate (sym fate) (ap (λ (u : MemoryUse). u.written) uses)
     ∙ written_there c.args.missing c.args.place old memory other agrees

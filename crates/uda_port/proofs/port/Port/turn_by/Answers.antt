@@ -3,14 +3,15 @@ use Rattle.uda_port.specs.declared.turn_at.Fate.{Fate}
 use Rattle.uda_port.specs.Port.{PortState}
 use Rattle.uda_port.specs.MemoryUse.{EffectBy, TurnsAt}
 use Rattle.uda_port.proofs.TraceLaws.{reports_from}
-use Rattle.uda_port.proofs.MemoryUseLaws.{execution}
+use Rattle.uda_port.proofs.MemoryUseLaws.{to_execute}
+use Rattle.uda_port.proofs.PlanLaws.{execution}
 use Rattle.uda_port.proofs.PortSteps.{stops_polling}
 use Rattle.uda_port.proofs.port.Port.turn_by.Goals as goal
 
 pub turn_without_buffer-requires : goal.turn_without_buffer-requires
 turn_without_buffer-requires g c =
     let execute = c.requires.buffer c.in-WithoutBuffer.is in
-    let is = execution c.args.self.now c.args.memory.now c.args.plan.place (sym c.requires.access ∙ execute) in
+    let is = execution c.args.self.now c.args.memory.now (to_execute _ (sym c.requires.access ∙ execute)) in
     (search rules, (is.runs, c.requires.place is.pending))
 
 pub returns-in-Usual-clause-effect : goal.returns-in-Usual-clause-effect

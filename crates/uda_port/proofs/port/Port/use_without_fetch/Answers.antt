@@ -1,10 +1,11 @@
 use Rattle.std.proofs.Common.{◌+◌, ◌≤◌, length, arith, ap, refl, rules, subst, sym, zero-le, ◌∙◌}
 use Rattle.uda_exec.specs.BufferUse.{buffer_use_at}
 use Rattle.uda_port.specs.Fetch.{IsNext}
-use Rattle.uda_port.specs.MemoryUse.{command_use}
+use Rattle.uda_port.specs.MemoryUse.{command_use, use_by}
 use Rattle.uda_port.specs.Port.{PortState}
 use Rattle.uda_port.specs.Ring.{descriptor_address, next_descriptor}
-use Rattle.uda_port.proofs.MemoryUseLaws.{executing_is, none_lies, waiting_is}
+use Rattle.uda_port.proofs.MemoryUseLaws.{none_lies, waiting_is}
+use Rattle.uda_port.proofs.PlanLaws.{later_executes}
 use Rattle.uda_port.proofs.port.Port.use_without_fetch.Goals as goal
 
 pub returns-in-OutsideMemory : goal.returns-in-OutsideMemory
@@ -16,8 +17,8 @@ returns-in-OutsideMemory g c =
     let count = c.pending.ensures.count ∙ ap (λ (p : PortState). length p.exec.pending) c.self.view_is in
     record {
       uses =
-          is ∙ sym (waiting_is c.args.self.now c.args.memory.now c.args.place c.in-Some.size
-          (omega (arith, count, c.if-pending-gt0.false)) size there);
+          is ∙ sym (ap (use_by c.args.self.now c.args.memory.now c.args.place) (waiting_is c.args.self.now
+          c.args.memory.now c.in-Some.size (omega (arith, count, c.if-pending-gt0.false)) size there));
       body_within = rw is zero-le;
       written_within = rw is (none_lies c.args.memory.now);
     }
@@ -28,7 +29,8 @@ returns-then-pending-gt0-clause-uses g c =
     ∙ ap (λ (p : PortState). buffer_use_at p.exec c.args.place) c.self.view_is in
     let count = c.pending.ensures.count ∙ ap (λ (p : PortState). length p.exec.pending) c.self.view_is in
     c.command_use.ensures.uses ∙ ap (command_use c.args.memory.now) buffer
-    ∙ sym (executing_is c.args.self.now c.args.memory.now c.args.place (omega (arith, count, c.if-pending-gt0.true)))
+    ∙ sym (ap (use_by c.args.self.now c.args.memory.now c.args.place)
+    (later_executes c.args.self.now c.args.memory.now (omega (arith, count, c.if-pending-gt0.true))))
 
 pub returns-in_default-clause-written_within : goal.returns-in_default-clause-written_within
 returns-in_default-clause-written_within g c = rw c.no_use.ensures (none_lies c.args.memory.now)

@@ -143,13 +143,13 @@ impl Memory {
     /// Runs a turn of a port.
     pub fn turn(&mut self, port: &mut Port<RecordingImage>) -> Result<Trace, CaseFault> {
         match self {
-            Memory::Host(memory) => Ok(port.turn_traced(memory)),
+            Memory::Host(memory) => Ok(turn_of(port, memory.as_mut_slice())),
             Memory::Slice(slice) => {
                 let bytes = slice.next()?;
                 if !is_memory(bytes) {
                     return Err(CaseFault::Memory);
                 }
-                Ok(port.turn_traced_in(bytes))
+                Ok(turn_of(port, bytes))
             }
         }
     }
@@ -167,7 +167,10 @@ impl Memory {
                 if !is_memory(bytes) {
                     return Err(CaseFault::Memory);
                 }
-                Ok(port.play_in(events, bytes))
+                for &event in events {
+                    play_one(port, event, bytes);
+                }
+                Ok(port.read_sa())
             }
         }
     }
@@ -181,7 +184,10 @@ impl Memory {
                 if !is_memory(bytes) {
                     return Err(CaseFault::Memory);
                 }
-                Ok(exec.execute_one_in(bytes))
+                let Some(place) = exec.next() else {
+                    return Ok(None);
+                };
+                Ok(Some(exec.execute_at_in(place, bytes).strict_end()))
             }
         }
     }
@@ -200,6 +206,30 @@ impl Memory {
                 }
                 Ok(ring.fetch_in(bytes))
             }
+        }
+    }
+}
+
+// Runs a turn of a port over these bytes, and returns its trace record.
+fn turn_of(port: &mut Port<RecordingImage>, bytes: &mut [u8]) -> Trace {
+    let mut trace = Trace::Idle;
+    port.turn_at(bytes, None, &mut trace);
+    trace
+}
+
+// Applies one event to a port over these bytes, as `Port::play` does over a host's memory.
+fn play_one(port: &mut Port<RecordingImage>, event: HostEvent, bytes: &mut [u8]) {
+    match event {
+        HostEvent::WriteIp => port.write_ip(0),
+        HostEvent::ReadIp => {
+            port.read_ip();
+        }
+        HostEvent::WriteSa(word) => port.write_sa_in(word, bytes),
+        HostEvent::Word { address, word } => {
+            uda_mem::write_word(bytes, address, word);
+        }
+        HostEvent::Turn => {
+            port.turn_in(bytes);
         }
     }
 }

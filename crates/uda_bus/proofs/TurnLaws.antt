@@ -19,7 +19,7 @@ use Rattle.uda_port.specs.Ring.{descriptor_address}
 use Rattle.uda_port.specs.MemoryUse.{descriptor_ranges, use_of, written_of, Agrees, AgreesInDescriptors, IsLocal, IsPlace}
 use Rattle.uda_bus.specs.declared.map.BusMap.{BusMap}
 use Rattle.uda_bus.specs.Bytes.{shown, stored, AllLead}
-use Rattle.uda_bus.specs.Turns.{bus_memory, stored_ranges, TellsMissing, IsMissing, TurnsBehind}
+use Rattle.uda_bus.specs.Turns.{bus_memory, stored_ranges, TellsMissing, IsMissing, TurnsThroughMap}
 use Rattle.uda_bus.proofs.ShownLaws.{length-shown, part_shown}
 use Rattle.uda_bus.proofs.CarriedLaws.{carried_agrees, carried_same, all_same-sym, all_same-trans, all_kept}
 
@@ -236,14 +236,14 @@ module _ (port : PortState) (map : BusMap) (memory window : List ℕ) where
           (tells_missing map memory body whole leads);
     }
 
-  pub turns_behind : (place : ℕ) (missing : Missing) (w2 w3 : List ℕ) (taken : TurnTaken)
+  pub turns_through_map : (place : ℕ) (missing : Missing) (w2 w3 : List ℕ) (taken : TurnTaken)
       (after : PortState × List ℕ) → IsPlace port.exec.pending place
       → IsMissing map (length window) (port, memory) place missing → Agrees port place w2 bus
       → IsLocal missing place (port, w2) taken (after.0, w3)
       → ((other : List ℕ) → Agrees port place w2 other → taken.written ≡ written_of missing port other place)
       → after.1 ≡ stored_ranges map taken.written w3 memory
-      → TurnsBehind map (length window) (port, memory) taken.turn after
-  turns_behind place missing w2 w3 taken after is_place is_missing agrees local is_written stores =
+      → TurnsThroughMap map (length window) (port, memory) taken.turn after
+  turns_through_map place missing w2 w3 taken after is_place is_missing agrees local is_written stores =
       let written = taken.written in
       let bus_after = carried written w3 bus in
       let kept : length w3 ≡ length w2 = ap length local.only ∙ length-carried written w3 w2 in

@@ -11,7 +11,7 @@ use Rattle.uda_port.specs.Startup.{area_of, has_area, refuses_third}
 use Rattle.uda_port.specs.StartupUse.{area_range, range_zeroed, range_written, WordIsLocal}
 use Rattle.uda_bus.specs.declared.map.BusMap.{BusMap}
 use Rattle.uda_bus.specs.Bytes.{stored}
-use Rattle.uda_bus.specs.Turns.{bus_memory, TellsMissing, WritesSaBehind}
+use Rattle.uda_bus.specs.Turns.{bus_memory, TellsMissing, WritesSaThroughMap}
 use Rattle.uda_bus.proofs.ShownLaws.{length-shown}
 use Rattle.uda_bus.proofs.CarriedLaws.{carried_agrees, carried_same}
 use Rattle.uda_bus.proofs.TurnLaws.{stored_same}
@@ -40,7 +40,7 @@ module _ (port : PortState) (map : BusMap) (memory window : List ℕ) (word : �
       → WordIsLocal missing (port, window) word written (after.0, new)
       → length new ≡ length window
       → after.1 ≡ stored map memory written.at (part new written.at written.bytes)
-      → WritesSaBehind map (length window) (port, memory) word after
+      → WritesSaThroughMap map (length window) (port, memory) word after
   word_behind missing area written new after is_area tells is_written local long stores =
       let bus = bus_memory map (length window) memory in
       let size : length bus ≡ length window = length-shown map memory 0 (length window) in

@@ -40,7 +40,7 @@ pub record IsMissing (map : BusMap) (size : ℕ) (before : PortState × List ℕ
 
 -- One turn over memory through map registers is a turn on what the bus shows. If it executes a command, that is
 -- the pending command at this index. Then what the turn wrote is stored, in this order, and nothing else changes.
-pub record TurnsBehind (map : BusMap) (size : ℕ) (before : PortState × List ℕ) (turn : Turn)
+pub record TurnsThroughMap (map : BusMap) (size : ℕ) (before : PortState × List ℕ) (turn : Turn)
     (after : PortState × List ℕ) : Type 0 where
   pub place : ℕ
   pub missing : Missing
@@ -55,7 +55,7 @@ pub record TurnsBehind (map : BusMap) (size : ℕ) (before : PortState × List �
 
 -- A word that the guest writes to SA is written over what the bus shows. Then what it zeroed is stored, and
 -- nothing else changes.
-pub record WritesSaBehind (map : BusMap) (size : ℕ) (before : PortState × List ℕ) (word : ℕ)
+pub record WritesSaThroughMap (map : BusMap) (size : ℕ) (before : PortState × List ℕ) (word : ℕ)
     (after : PortState × List ℕ) : Type 0 where
   pub missing : Bool
   pub written : ByteRange

@@ -10,7 +10,7 @@ ghost use Rattle.uda_port.specs.Port.{CreditsAgree};
 ghost use Rattle.uda_port.specs.Ring.{descriptor_address};
 ghost use Rattle.uda_port.specs.Trace.{Traces, turn_of};
 ghost use Rattle.uda_bus.specs.Bytes.{stored, AllLead};
-ghost use Rattle.uda_bus.specs.Turns.{bus_memory, stored_ranges, IsMissing, TurnsBehind, WritesSaBehind};
+ghost use Rattle.uda_bus.specs.Turns.{bus_memory, stored_ranges, IsMissing, TurnsThroughMap, WritesSaThroughMap};
 ghost use Rattle.uda_bus.specs.Turns.{TellsMissing};
 
 use crate::map::BusMap;
@@ -18,7 +18,7 @@ use std::alloc::Global;
 use std::marker::Model;
 use uda_image::BlockStore;
 use uda_mem::{ByteRange, NoMemory};
-use uda_port::{Missing, Port, Trace, Turn};
+use uda_port::{BusTurn, Missing, Port, Trace, Turn};
 
 /// The memory of a bus as a port sees it for a turn: as many bytes as the bus has addresses.
 #[derive(Debug, Drop)]
@@ -81,7 +81,7 @@ impl BusMap<'_> {
         window: &mut Window,
         trace: &mut Trace,
     ) -> Turn
-        ensures effect { TurnsBehind self.now (length window.old) (port.old, memory.old) result
+        ensures effect { TurnsThroughMap self.now (length window.old) (port.old, memory.old) result
             (port.new, memory.new) }
         ensures turn { result ≡ turn_of trace.new }
         ensures accurate { Traces trace.new port.old port.new }
@@ -103,7 +103,7 @@ impl BusMap<'_> {
         trace: &mut Trace,
     ) -> Turn
         requires window { IsMemory window.old }
-        ensures effect { TurnsBehind self.now (length window.old) (port.old, memory.old) result
+        ensures effect { TurnsThroughMap self.now (length window.old) (port.old, memory.old) result
             (port.new, memory.new) }
         ensures turn { result ≡ turn_of trace.new }
         ensures accurate { Traces trace.new port.old port.new }
@@ -115,7 +115,7 @@ impl BusMap<'_> {
     {
         let place = port.next_place();
         let missing = self.read_used(port, memory, place, window);
-        let taken = port.turn_traced_at(window, place, missing, trace);
+        let taken = port.turn_at(window, Some(&BusTurn { place, missing }), trace);
         self.write_ranges(memory, &taken.written, window);
         taken.turn
     }
@@ -134,7 +134,7 @@ impl BusMap<'_> {
         memory: &mut [u8],
         window: &mut Window,
     )
-        ensures effect { WritesSaBehind self.now (length window.old) (port.old, memory.old) word
+        ensures effect { WritesSaThroughMap self.now (length window.old) (port.old, memory.old) word
             (port.new, memory.new) }
         ensures window { length window.new ≡ length window.old }
         ensures length { length memory.new ≡ length memory.old }
@@ -150,7 +150,7 @@ impl BusMap<'_> {
         memory: &mut [u8],
         window: &mut [u8],
     )
-        ensures effect { WritesSaBehind self.now (length window.old) (port.old, memory.old) word
+        ensures effect { WritesSaThroughMap self.now (length window.old) (port.old, memory.old) word
             (port.new, memory.new) }
         ensures window { length window.new ≡ length window.old }
         ensures length { length memory.new ≡ length memory.old }

@@ -32,7 +32,7 @@ use Rattle.uda_port.specs.declared.saved.Saved.{Saved}
 use Rattle.uda_port.specs.declared.saved.RestoreError.{RestoreError}
 use Rattle.uda_port.specs.Saved.{RestoreEffect, saved_port}
 use Rattle.uda_port.specs.Startup.{has_bit, after_wrap_request, area_of, has_area, refuses_second, refuses_third, asks_test, after_sa_write, failed_port}
-use Rattle.uda_port.specs.Plan.{Step, counted, plan_of, Rests, NoCommands, Unreadable, Exceeds, Unconnected, Fetches, Executes, DeliversEnd, Notifies, Waits, NoResponses, NoRoom}
+use Rattle.uda_port.specs.Plan.{Step, counted, plan_of, Rests, CommandRingLost, Unreadable, Exceeds, BadConnection, Fetches, Executes, DeliversEnd, Notifies, Waits, ResponseRingLost, NoRoom}
 use Rattle.uda_port.specs.Turn.{port_turn_on, port_with_message, port_not_polling, may_fetch, ExecutesOne, ExecutesFor, TurnEffect}
 use Rattle.uda_port.specs.declared.memory_use.Access.{Access}
 use Rattle.uda_port.specs.declared.memory_use.Missing.{Missing}
@@ -338,11 +338,11 @@ turn_keeps turn s same c = by c
 
     by : AnyCase turn s → (s.new ≡ s.old) ⊎ Keeps s.old s.new
     by (Rests rests answer same) = inl same.state
-    by (NoCommands d line same) = kept _ same.state refl refl refl refl
+    by (CommandRingLost d line same) = kept _ same.state refl refl refl refl
     by (Unreadable d line same) = kept _ same.state refl refl refl refl
     by (Exceeds d before line is) =
         kept _ (is ∙ ap (λ (p : PortState). failed_port p CreditsExceeded) line.taken.others) refl refl refl refl
-    by (Unconnected d before line is) =
+    by (BadConnection d before line is) =
         kept _ (is ∙ ap (λ (p : PortState). failed_port p InvalidConnection) line.taken.others) refl refl refl refl
     by (Fetches d line) =
         let m = message_in s.old.profile line.packet in
@@ -356,7 +356,7 @@ turn_keeps turn s same c = by c
     by (Notifies d r line) =
         inr (left s.old s.new _ line.others refl refl (unset_less s.old.guest.attentions line.drive) refl (ap has_run d.runs))
     by (Waits d r none same) = kept _ same.state refl refl refl (ap has_run d.runs)
-    by (NoResponses d r line same) = kept _ same.state refl refl refl refl
+    by (ResponseRingLost d r line same) = kept _ same.state refl refl refl refl
     by (NoRoom d r line same) = kept _ same.state refl refl refl refl
 
 fits_by : (old new : PortState) → new.profile ≡ old.profile → AllFit new → FitsController old → FitsController new

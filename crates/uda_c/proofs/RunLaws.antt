@@ -5,7 +5,7 @@ use Rattle.uda_c.specs.declared.call_status.CallStatus.{CallStatus}
 use Rattle.uda_c.specs.declared.call_status.CallStatus.TheVariants.{RanTurn}
 use Rattle.uda_c.specs.Controllers.{TakesTurn}
 use Rattle.uda_c.specs.declared.map.MappedBus.{MappedBus}
-use Rattle.uda_c.specs.Maps.{TakesTurnBehind, TakesTurnsBehind}
+use Rattle.uda_c.specs.Maps.{TakesTurnThroughMap, TakesTurnsBehind}
 use Rattle.uda_c.specs.Runs.{Machine, TakesTurns, does_nothing}
 
 -- a turn, and then the rest of the run
@@ -27,7 +27,7 @@ run_over limit k before old turn next h over takes =
 
 -- the same of turns over memory through map registers
 module _ (bus : MappedBus) (limit k : ℕ) (before : CallStatus) (old : Machine) (turn : Turn) (next : Machine)
-    (below : k < limit) (takes : TakesTurnBehind bus old (RanTurn turn) next) where
+    (below : k < limit) (takes : TakesTurnThroughMap bus old (RanTurn turn) next) where
   pub run_on_behind : (after : CallStatus × Machine) → does_nothing turn ≡ false
       → TakesTurnsBehind bus (limit - (k + 1)) (RanTurn turn) next after
       → TakesTurnsBehind bus (limit - k) before old after

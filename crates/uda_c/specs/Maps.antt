@@ -5,7 +5,7 @@ use Rattle.uda_bus.specs.declared.map.MapForm.{MapForm}
 use Rattle.uda_bus.specs.declared.map.Registers.{Registers}
 use Rattle.uda_bus.specs.declared.map.Registers.TheVariants.{Apart, InMemory}
 use Rattle.uda_bus.specs.Bytes.{shown, stored, AllLead}
-use Rattle.uda_bus.specs.Turns.{TurnsBehind, WritesSaBehind}
+use Rattle.uda_bus.specs.Turns.{TurnsThroughMap, WritesSaThroughMap}
 use Rattle.uda_port.specs.declared.trace.Trace.{Trace}
 use Rattle.uda_port.specs.declared.turn.Turn.{Turn}
 use Rattle.uda_port.specs.Trace.{turn_of, Traces}
@@ -44,19 +44,19 @@ pub record IsBusOf (m : MapRegisters) (bus : MappedBus) : Type 0 where
   pub size : bus.size ≡ register_count m * 2 ^ m.page
 
 -- one turn over memory through map registers, whose record is stored as the last
-pub record TakesTurnBehind (bus : MappedBus) (before : Machine) (answer : CallStatus) (after : Machine)
+pub record TakesTurnThroughMap (bus : MappedBus) (before : Machine) (answer : CallStatus) (after : Machine)
     : Type 0 where
   pub trace : Trace
   pub answer_is : answer ≡ RanTurn (turn_of trace)
   pub last_is : after.0.last ≡ Some trace
   pub tells : Traces trace before.0.port after.0.port
-  pub goes : TurnsBehind bus.map bus.size (before.0.port, before.1) (turn_of trace) (after.0.port, after.1)
+  pub goes : TurnsThroughMap bus.map bus.size (before.0.port, before.1) (turn_of trace) (after.0.port, after.1)
 
 -- at most `limit` turns, as in memory that is one array
 abbrev pub TakesTurnsBehind : MappedBus → ℕ → CallStatus → Machine → CallStatus × Machine → Type 0
 TakesTurnsBehind bus zero before old after = (after.0 ≡ before) × (after.1 ≡ old)
 TakesTurnsBehind bus (suc limit) before old after =
-    (turn : Turn) × (next : Machine) × TakesTurnBehind bus old (RanTurn turn) next
+    (turn : Turn) × (next : Machine) × TakesTurnThroughMap bus old (RanTurn turn) next
     × AfterTurn (does_nothing turn) ((after.0 ≡ RanTurn turn) × (after.1 ≡ next))
     (TakesTurnsBehind bus limit (RanTurn turn) next after)
 
@@ -71,7 +71,7 @@ pub record OverMap (m : MapRegisters) (before : Machine) (answer : CallStatus) (
 pub record WritesSaOver (bus : MappedBus) (before : Machine) (word : ℕ) (answer : CallStatus) (after : Machine)
     : Type 0 where
   pub answer_is : answer ≡ Done
-  pub steps : WritesSaBehind bus.map bus.size (before.0.port, before.1) word (after.0.port, after.1)
+  pub steps : WritesSaThroughMap bus.map bus.size (before.0.port, before.1) word (after.0.port, after.1)
   pub last_stays : after.0.last ≡ before.0.last
 
 -- bytes that a bus shows from an address on, and whether each address leads to a byte of memory

@@ -18,7 +18,7 @@ ghost use Rattle.uda_exec.specs.Drives.{drive_state};
 ghost use Rattle.uda_port.specs.MemoryUse.{IsPlace};
 ghost use Rattle.uda_c.specs.TurnUse.{GetsDescriptors, GetsBody, TurnsAtWhereMemory, TakesTurnAt, WritesSaAt};
 ghost use Rattle.uda_c.specs.Runs.{TakesTurns, RunsWhereMemory, does_nothing};
-ghost use Rattle.uda_c.specs.Maps.{IsBusOf, map_answer, OverMap, TakesTurnBehind, TakesTurnsBehind, WritesSaOver};
+ghost use Rattle.uda_c.specs.Maps.{IsBusOf, map_answer, OverMap, TakesTurnThroughMap, TakesTurnsBehind, WritesSaOver};
 
 use crate::call_status::CallStatus;
 use crate::fits::{fits_controller, numbers_fit};
@@ -37,7 +37,7 @@ use uda_exec::Exec;
 use uda_image::{Drive, STORE_LIMIT};
 use uda_mem::ByteRange;
 use uda_packet::DriveType;
-use uda_port::{Port, Profile, Trace, Turn};
+use uda_port::{BusTurn, Port, Profile, Trace, Turn};
 use uda_saved::{STATE_LENGTH, SavedState};
 
 /// A port over the images that C has lent, and the record of its last turn.
@@ -410,7 +410,8 @@ impl Controller {
         let place = self.place_of(turn);
         let missing = turn.missing();
         let trace = self.last.get_or_insert(Trace::Idle);
-        let taken = self.port.turn_traced_at(memory, place, missing, trace);
+        let bus = BusTurn { place, missing };
+        let taken = self.port.turn_at(memory, Some(&bus), trace);
         let written = taken.written;
         turn.written = written;
         CallStatus::RanTurn(taken.turn)
@@ -439,7 +440,7 @@ impl Controller {
     /// Runs one turn of the port over memory through map registers.
     pub fn turn_mapped(&mut self, memory: &mut [u8], map: &MapRegisters<'_>) -> CallStatus
         ensures effect { OverMap map.now (self.old, memory.old) result (self.new, memory.new)
-            (λ bus. TakesTurnBehind bus (self.old, memory.old) result (self.new, memory.new)) }
+            (λ bus. TakesTurnThroughMap bus (self.old, memory.old) result (self.new, memory.new)) }
     {
         match self.ready(map) {
             Ok(ReadyBus { bus, window }) => {
@@ -547,7 +548,7 @@ impl Controller {
         window: &mut Window,
     ) -> Turn
         requires window { length window.old ≡ bus.now.size }
-        ensures turn { TakesTurnBehind bus.now (self.old, memory.old) (RanTurn result) (self.new, memory.new) }
+        ensures turn { TakesTurnThroughMap bus.now (self.old, memory.old) (RanTurn result) (self.new, memory.new) }
         ensures window { length window.new ≡ length window.old }
     {
         let trace = self.last.get_or_insert(Trace::Idle);
@@ -560,7 +561,7 @@ impl Controller {
         ensures { TakesTurn self.old memory.old (RanTurn result) self.new memory.new }
     {
         let trace = self.last.get_or_insert(Trace::Idle);
-        self.port.turn_traced_into(memory, trace)
+        self.port.turn_at(memory, None, trace).turn
     }
 }
 

@@ -115,7 +115,7 @@ fn run_turn<S: BlockStore, W: Watch>(
     ensures well_formed { AreWellFormed host.new.units }
 {
     let mut trace = Trace::Idle;
-    let end = host.step_into(&mut trace);
+    let end = host.step(&mut trace);
     watch.see(&trace, host.credits());
     if let Some(end) = end {
         store_answer(host, out, answers, end);

@@ -291,10 +291,8 @@ impl<S: BlockStore> Exec<S> {
         self.execute_one_in(memory.as_mut_slice())
     }
 
-    /// Does the same over a slice: [`execute_one`](Exec::execute_one) with borrowed memory. The length of the
-    /// slice is even and at most [`SLICE_LIMIT`](uda_mem::SLICE_LIMIT) ([`is_memory`](uda_mem::is_memory)).
-    /// Each call may get another slice.
-    pub fn execute_one_in(&mut self, memory: &mut [u8]) -> Option<End>
+    // Does the same over a slice.
+    fn execute_one_in(&mut self, memory: &mut [u8]) -> Option<End>
         requires memory { IsMemory memory.old }
         ensures none_iff_empty { IsNone result ↔ (self.old.pending ≡ []) }
         ensures unchanged { IfNone result ((self.new ≡ self.old) × (memory.new ≡ memory.old)) }
@@ -316,8 +314,8 @@ impl<S: BlockStore> Exec<S> {
         Some(execute(&mut self.units, command, memory))
     }
 
-    /// Returns the index of the pending command that [`execute_one_in`](Exec::execute_one_in) executes next, or
-    /// None if nothing is pending. The oldest pending command has index 0.
+    /// Returns the index of the pending command that [`execute_one`](Exec::execute_one) executes next, or None if
+    /// nothing is pending. The oldest pending command has index 0.
     #[inline(always)]
     pub fn next(&self) -> Option<usize>
         ensures none_iff_empty { IsNone result ↔ (self.now.pending ≡ []) }
@@ -407,7 +405,8 @@ impl<S: BlockStore> Exec<S> {
 
     /// Executes the pending command at this index with its additional operation, removes it, and returns its end
     /// message. The command must be eligible ([`may_execute`](Exec::may_execute)). Otherwise it is as
-    /// [`execute_one_in`](Exec::execute_one_in).
+    /// [`execute_one`](Exec::execute_one), over a slice. The length of the slice is even and at most
+    /// [`SLICE_LIMIT`](uda_mem::SLICE_LIMIT) ([`is_memory`](uda_mem::is_memory)). Each call may get another slice.
     ///
     /// A Set Unit Characteristics sets the software write protection of a unit with a drive, if the command
     /// asks for it. The unit remains available or online.

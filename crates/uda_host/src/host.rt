@@ -23,15 +23,6 @@ use uda_mem::HostMemory;
 use uda_packet::{Command, End, Op};
 use uda_port::{Port, PortAllocError, Trace, Turn};
 
-/// One turn of a host's port.
-#[derive(Clone, Copy, Debug, PartialEq, Eq)]
-pub struct Step {
-    /// What the port did.
-    pub trace: Trace,
-    /// The end message that the host received, if the port delivered one.
-    pub end: Option<End>,
-}
-
 /// A host with its port: it posts commands, runs turns of the port, and receives end messages.
 ///
 /// Contracts read its buffers, the units, the outstanding commands, the queued end messages, its credits and
@@ -116,35 +107,12 @@ impl<S: BlockStore> Host<S> {
         self.posted.push(*command);
     }
 
-    /// Runs one turn of the port, and returns the end message that it delivers, as [`Host::step_traced`]
-    /// does.
-    pub fn step(&mut self) -> Option<End>
-        requires some { 0 < outstanding_count self.old }
-        ensures effect { StepEffect self.old result self.new }
-        ensures consistent { IsConsistent self.new }
-        ensures well_formed { AreWellFormed self.new.units }
-    {
-        self.step_traced().end
-    }
-
-    /// Runs one turn of the port, and returns what the port did. If the port delivers an end message, the
-    /// host reads it at the next index of the response ring, returns the descriptor, and adds the credits.
+    /// Runs one turn of the port, and stores what the port did in `trace`. If the port delivers an end message, the
+    /// host reads it at the next index of the response ring, returns the descriptor, adds the credits, and returns
+    /// the end message.
     ///
     /// UDA50 Programmer's Documentation Kit: response ring, credits.
-    pub fn step_traced(&mut self) -> Step
-        requires some { 0 < outstanding_count self.old }
-        ensures effect { StepEffect self.old result.end self.new }
-        ensures consistent { IsConsistent self.new }
-        ensures well_formed { AreWellFormed self.new.units }
-    {
-        let mut trace = Trace::Idle;
-        let end = self.step_into(&mut trace);
-        Step { trace, end }
-    }
-
-    /// Does the same, and stores what the port did in `trace`. Returns the end message, if there is one. It
-    /// is for callers that keep the record of the last turn: the record isn't copied.
-    pub fn step_into(&mut self, trace: &mut Trace) -> Option<End>
+    pub fn step(&mut self, trace: &mut Trace) -> Option<End>
         requires some { 0 < outstanding_count self.old }
         ensures effect { StepEffect self.old result self.new }
         ensures delivered { IsSome result ↔ (turn_of trace.new ≡ Delivered) }
@@ -174,10 +142,11 @@ impl<S: BlockStore> Host<S> {
         ensures consistent { IsConsistent self.new }
         ensures well_formed { AreWellFormed self.new.units }
     {
+        let mut trace = Trace::Idle;
         self.post(command);
-        self.step();
-        self.step();
-        let Some(end) = self.step() else {
+        self.step(&mut trace);
+        self.step(&mut trace);
+        let Some(end) = self.step(&mut trace) else {
             unreachable!()
         };
         end
@@ -233,5 +202,5 @@ fn turn_into<S: BlockStore>(port: &mut Port<S>, memory: &mut HostMemory, trace: 
     ensures credits { CreditsAgree port.new }
     ensures well_formed { AreWellFormed port.new.exec.units }
 {
-    port.turn_traced_into(memory.as_mut_slice(), trace)
+    port.turn_at(memory.as_mut_slice(), None, trace).turn
 }

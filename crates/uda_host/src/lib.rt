@@ -14,5 +14,5 @@ mod posted;
 mod ring;
 mod start;
 
-pub use host::{Host, Step};
+pub use host::Host;
 pub use ring::buffer_address;

@@ -17,7 +17,7 @@ use Rattle.uda_port.specs.declared.play.HostEvent.TheVariants.{WriteIp, ReadIp, 
 use Rattle.uda_port.specs.Port.{PortState, port_in_phase, port_after_ip_read}
 use Rattle.uda_port.specs.Interrupt.{interrupts_asked}
 use Rattle.uda_port.specs.Startup.{has_bit, area_of, has_area, refuses_second, refuses_third, asks_test, after_third, after_sa_write, failed_port, port_with_rings, memory_with_area, after_wrap_request}
-use Rattle.uda_port.specs.Plan.{Step, counted, silent, Rests, NoCommands, Unreadable, Exceeds, Unconnected, Fetches, Executes, DeliversEnd, Notifies, Waits, NoResponses, NoRoom}
+use Rattle.uda_port.specs.Plan.{Step, counted, stopped_polling, Rests, CommandRingLost, Unreadable, Exceeds, BadConnection, Fetches, Executes, DeliversEnd, Notifies, Waits, ResponseRingLost, NoRoom}
 use Rattle.uda_port.specs.Turn.{port_with_message, TurnEffect}
 use Rattle.uda_port.specs.Message.{message_in}
 use Rattle.uda_port.proofs.PlanLaws.{AnyCase, case_of}
@@ -181,11 +181,11 @@ fatal_turn cause turn s dead c = by c
 
     by : AnyCase turn s → Result
     by (Rests rests answer same) = inl (sym (phases s.new s.old same.state) ∙ dead)
-    by (NoCommands d line same) = met RingRead (counted s) d.runs same.state (inl line)
+    by (CommandRingLost d line same) = met RingRead (counted s) d.runs same.state (inl line)
     by (Unreadable d line same) = met PacketRead (counted s) d.runs same.state line
     by (Exceeds d before line is) =
         met CreditsExceeded before d.runs is (record { new = before; memory_after = s.memory_after; bad = line })
-    by (Unconnected d before line is) =
+    by (BadConnection d before line is) =
         met InvalidConnection before d.runs is (record { new = before; memory_after = s.memory_after; bad = line })
     by (Fetches d line) =
         lives d.runs (phases s.new _ line.others ∙ message_phase (counted s) (message_in s.old.profile line.packet))
@@ -193,9 +193,9 @@ fatal_turn cause turn s dead c = by c
     by (DeliversEnd d r line) = lives d.runs (phases s.new _ line.others)
     by (Notifies d r line) = lives d.runs (phases s.new _ line.others)
     by (Waits d r none same) = lives d.runs (phases s.new _ same.state)
-    by (NoResponses d r line same) = met RingRead (silent s) d.runs same.state
+    by (ResponseRingLost d r line same) = met RingRead (stopped_polling s) d.runs same.state
         (inr (reaches r, record { text = line.text; is_next = line.is_next; no_descriptor = line.no_descriptor }))
-    by (NoRoom d r line same) = met PacketWrite (silent s) d.runs same.state
+    by (NoRoom d r line same) = met PacketWrite (stopped_polling s) d.runs same.state
         (reaches r, record { text = line.text; is_next = line.is_next; no_room = line.no_room })
 
 -- ---- an event, and events

@@ -5,6 +5,7 @@ pub mod Length
 pub mod TurnLaws
 pub mod PlayLaws
 pub mod DeathLaws
+pub mod EndSizes
 pub mod AttentionLaws
 pub mod TraceLaws
 pub mod PossibleLaws

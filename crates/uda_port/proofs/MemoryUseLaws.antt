@@ -51,11 +51,13 @@ use Rattle.uda_port.specs.Fetch.{Takes}
 use Rattle.uda_port.specs.Delivery.{Puts}
 use Rattle.uda_port.specs.Message.{message_in, flags_kept}
 use Rattle.uda_port.specs.Events.{Delivers}
-use Rattle.uda_port.specs.Plan.{Plan, AtRest, NoCommandRing, ToFetch, ToExecute, NoMessage, ToWait, NoResponseRing, ToDeliver, plan_later, later_plan, next_size, plan_by, plan_of}
-use Rattle.uda_port.specs.Plan.{Step, Did, TurnCase, Rests, NoCommands, Unreadable, Exceeds, Unconnected, Fetches, Executes, DeliversEnd, Notifies, Waits, NoResponses, NoRoom}
+use Rattle.uda_port.specs.declared.plan.Plan.{Plan}
+use Rattle.uda_port.specs.declared.plan.Plan.TheVariants.{AtRest, NoCommandRing, ToFetch, ToExecute, NoMessage, ToWait, NoResponseRing, ToDeliver}
+use Rattle.uda_port.specs.Plan.{plan_by, plan_of}
+use Rattle.uda_port.specs.Plan.{Step, TurnIs, TurnCase, Rests, CommandRingLost, Unreadable, Exceeds, BadConnection, Fetches, Executes, DeliversEnd, Notifies, Waits, ResponseRingLost, NoRoom}
 use Rattle.uda_port.specs.Turn.{Unchanged, ExecutesFor, TurnEffect, TakesPacket, NothingToFetch, NothingToDeliver, ExecutesOne, may_fetch, fetching_of, port_turn_on, port_not_polling, port_with_message}
 use Rattle.uda_port.specs.MemoryUse.{descriptor_ranges, packet_range, indicator_range, returned_range, NONE_WRITTEN, access_of, has_text, has_room, written_by_fetch, fetch_use, looked_up, command_use, written_by_delivery, delivery_use, use_by, use_of, fate_at, fate_in, fate_of, CanFail, EffectBy, EffectWithout, written_by_fate, written_of, Agrees, AgreesInDescriptors, IsLocal, HasValidRings}
-use Rattle.uda_port.proofs.PlanLaws.{plan_rests, plan_outside, plan_fetches, plan_executes, plan_lost, plan_delivers, IsQuiet, Silent, Waiting, plan_quiet, some_executed, case_of, executed_case, case_at, turns_at}
+use Rattle.uda_port.proofs.PlanLaws.{plan_rests, plan_outside, plan_fetches, plan_executes, plan_lost, plan_delivers, IsQuiet, NoneWaits, Waiting, plan_quiet, some_executed, case_of, executed_case, case_at, turns_at}
 use Rattle.uda_port.proofs.PortSteps.{reads_no_ring, reads_no_packet, writes_no_packet}
 use Rattle.uda_port.proofs.RingLaws.{takes_first}
 use Rattle.uda_port.proofs.TurnLaws.{executes_for, attention_first, first_text}
@@ -256,13 +258,6 @@ puts_indicator : (indicator : Option ℕ) (memory : List ℕ)
     ≡ memory_with_indicator memory indicator
 puts_indicator None memory = put-nil memory 0
 puts_indicator (Some at) memory = refl
-
--- nothing
-abbrev no_writes : List Write
-no_writes = no_write ∷ no_write ∷ no_write ∷ no_write ∷ []
-
-puts_none : (memory : List ℕ) → puts no_writes memory ≡ memory
-puts_none memory = put-nil _ 0 ∙ put-nil _ 0 ∙ put-nil _ 0 ∙ put-nil memory 0
 
 -- by a fetch
 abbrev fetch_writes : Option ℕ → RingState → Descriptor → List Write
@@ -610,7 +605,7 @@ module _ (old : PortState) (memory : List ℕ) (j : ℕ) (new : PortState) (memo
         (room_true old.profile memory place (length text) t.room)))
         (λ other s body. goes other s (puts_there other s body))
 
-  executed_local : (turn : Turn) → Did did.Executed turn old → NothingToFetch old memory
+  executed_local : (turn : Turn) → TurnIs did.Executed turn old → NothingToFetch old memory
       → ExecutesOne j idle_on memory new memory_after → Local (use_of old memory j) turn
   executed_local turn d nothing x =
       let g = as_guest old.profile j old.exec memory x.end new.exec memory_after valid.strict x.executes in
@@ -655,9 +650,9 @@ module _ (old : PortState) (memory : List ℕ) (j : ℕ) (new : PortState) (memo
   case_local turn (Rests rests answer same) =
       unwritten AtRest turn (plan_rests old memory rests) refl same.memory_stays
       (λ other s body. Rests rests answer (still memory other old same))
-  case_local turn (NoCommands d line same) =
+  case_local turn (CommandRingLost d line same) =
       unwritten NoCommandRing turn (plan_outside old memory d.runs line.looks line.no_descriptor) refl same.memory_stays
-      (λ other s body. NoCommands d
+      (λ other s body. CommandRingLost d
       (record { looks = line.looks; no_descriptor = s.command ∙ line.no_descriptor }) (still memory other _ same))
   case_local turn (Unreadable d line same) =
       let l = line.no_packet in
@@ -680,8 +675,8 @@ module _ (old : PortState) (memory : List ℕ) (j : ℕ) (new : PortState) (memo
         strict = line.strict;
         no_credit = line.no_credit;
       }) is)
-  case_local turn (Unconnected d before line is) =
-      rejected turn line.packet before d.runs line.taken (λ other after t. Unconnected d before (record {
+  case_local turn (BadConnection d before line is) =
+      rejected turn line.packet before d.runs line.taken (λ other after t. BadConnection d before (record {
         packet = line.packet;
         taken = t;
         credit = line.credit;
@@ -735,11 +730,11 @@ module _ (old : PortState) (memory : List ℕ) (j : ℕ) (new : PortState) (memo
       waits other s = Waits d (reaches_there other s reaches) (owns other s) (still memory other _ same)
 
       by : IsQuiet old memory d.runs reaches → Local (use_of old memory j) turn
-      by (Silent plan) = unwritten NoMessage turn plan refl same.memory_stays (λ other s body. waits other s)
+      by (NoneWaits plan) = unwritten NoMessage turn plan refl same.memory_stays (λ other s body. waits other s)
       by (Waiting plan) = unwritten ToWait turn plan refl same.memory_stays (λ other s body. waits other s)
-  case_local turn (NoResponses d reaches line same) =
+  case_local turn (ResponseRingLost d reaches line same) =
       unwritten NoResponseRing turn (plan_lost old memory d.runs reaches line.text line.is_next line.no_descriptor) refl
-      same.memory_stays (λ other s body. NoResponses d (reaches_there other s reaches)
+      same.memory_stays (λ other s body. ResponseRingLost d (reaches_there other s reaches)
       (record { text = line.text; is_next = line.is_next; no_descriptor = s.response ∙ line.no_descriptor })
       (still memory other _ same))
   case_local turn (NoRoom d reaches line same) =
@@ -772,26 +767,6 @@ fate_there : (missing : Missing) (port : PortState) (memory other : List ℕ)
     → SameDescriptors port memory other → fate_of missing port other ≡ fate_of missing port memory
 fate_there missing port memory other s =
     ap (λ (p : Plan). fate_in port.phase missing (may_fetch port) (access_of p)) (plan_there port memory other s)
-
--- the access of what a plan uses
-access_is : (port : PortState) (memory : List ℕ) (j : ℕ) (p : Plan) → (use_by port memory j p).access ≡ access_of p
-access_is port memory j ToExecute = by (buffer_use_at port.exec j)
-  where
-    by : (found : Option BufferUse) → (command_use memory found).access ≡ Execute
-    by None = refl
-    by (Some u) = refl
-access_is port memory j _ = refl
-
-pub use_access : (port : PortState) (memory : List ℕ) (j : ℕ) (uses : MemoryUse) → uses ≡ use_of port memory j
-    → uses.access ≡ access_of (plan_of port memory)
-use_access port memory j uses is =
-    ap (λ (u : MemoryUse). u.access) is ∙ access_is port memory j (plan_of port memory)
-
-pub fate_is : (missing : Missing) (port : PortState) (memory : List ℕ) (j : ℕ) (uses : MemoryUse)
-    → uses ≡ use_of port memory j
-    → fate_of missing port memory ≡ fate_in port.phase missing (may_fetch port) uses.access
-fate_is missing port memory j uses is =
-    ap (fate_in port.phase missing (may_fetch port)) (sym (use_access port memory j uses is))
 
 pub to_execute : (p : Plan) → access_of p ≡ Execute → p ≡ ToExecute
 to_execute ToExecute is = refl
@@ -989,17 +964,6 @@ fetch_is port memory d at body readable written is_at is_body is_written has is 
     λ b w. record { access = Fetch; body = b; written = w } in
     let text = text_iff memory at 48 readable has is in
     ap₂ make is_body (is_written ∙ ap (written_by_fetch port memory) text) ∙ ap (fetch_use port memory) is_at
-
-pub waiting_is : (port : PortState) (memory : List ℕ) (n : ℕ) → length port.exec.pending ≡ 0
-    → next_size port ≡ Some n → next_descriptor memory port.responses ≡ None → later_plan port memory ≡ NoResponseRing
-waiting_is port memory n idle size none =
-    ap (λ (cs : List Command). plan_later cs (next_size port) (next_descriptor memory port.responses))
-    (no_commands port.exec.pending idle)
-    ∙ ap₂ (plan_later []) size none
-  where
-    no_commands : (pending : List Command) → length pending ≡ 0 → pending ≡ []
-    no_commands [] none = refl
-    no_commands (c ∷ cs) none = absurd (omega arith)
 
 -- ---- fates
 

@@ -1,12 +1,14 @@
 -- A turn is one of the cases of its plan.
-use Rattle.std.proofs.Common.{◌≡◌, ℕ, ◌<◌, Bool, true, false, List, [], ◌∷◌, length, Option, Some, None, Result, Ok, Err, refl, sym, ap, ap₂, subst, ◌∙◌, arith}
-use Rattle.std.specs.Prelude.{option_map, slice_get, if◌then◌else◌}
+use Rattle.std.proofs.Common.{◌≡◌, ℕ, ◌+◌, ◌<◌, ◌≤◌, Bool, true, false, List, [], ◌∷◌, length, Option, Some, None, Result, Ok, Err, refl, sym, ap, ap₂, subst, ◌∙◌, arith}
+use Rattle.std.specs.Prelude.{nat_le, option_map, slice_get, if◌then◌else◌}
+use Rattle.std.proofs.lemmas.Bool.{leb-true}
 use Rattle.std.proofs.lemmas.Option.{slice_get_within}
 use Rattle.uda_packet.specs.declared.command.Command.{Command}
 use Rattle.uda_packet.specs.declared.guest_command.GuestCommand.{GuestCommand}
 use Rattle.uda_packet.specs.declared.reply.Reply.{Reply}
 use Rattle.uda_packet.specs.declared.reply.ReplyBody.{ReplyBody}
 use Rattle.uda_packet.specs.declared.reply.ReplyBody.TheVariants as body
+use Rattle.uda_mem.specs.Words.{word_at}
 use Rattle.uda_disk.specs.Units.{Units}
 use Rattle.uda_exec.specs.Disks.{ExecState}
 use Rattle.uda_port.specs.AtOnce.{exec_for, exec_at_once}
@@ -20,14 +22,16 @@ use Rattle.uda_port.specs.declared.phase.Phase.TheVariants.{Running, Dead as Dea
 use Rattle.uda_port.specs.declared.turn.Turn.{Turn}
 use Rattle.uda_port.specs.declared.turn.Turn.TheVariants as did
 use Rattle.uda_port.specs.Events.{Delivers}
-use Rattle.uda_port.specs.Plan.{Plan, AtRest, NoCommandRing, ToFetch, ToExecute, NoMessage, ToWait, NoResponseRing, ToDeliver}
-use Rattle.uda_port.specs.Plan.{plan_message, plan_later, plan_found, plan_running, plan_in, next_size, later_plan, plan_of}
-use Rattle.uda_port.specs.Plan.{Step, counted, silent, is_execution, is_executed, rest_turn, Did, TurnCase, Rests, NoCommands, Unreadable, Exceeds, Unconnected, Fetches, Executes, DeliversEnd, Notifies, Waits, NoResponses, NoRoom}
+use Rattle.uda_port.specs.declared.plan.Plan.{Plan}
+use Rattle.uda_port.specs.declared.plan.Plan.TheVariants.{AtRest, NoCommandRing, ToFetch, ToExecute, NoMessage, ToWait, NoResponseRing, ToDeliver}
+use Rattle.uda_port.specs.Plan.{plan_message, plan_later, plan_found, plan_running, plan_in, next_size, plan_without_fetch, plan_of}
+use Rattle.uda_port.specs.Plan.{Step, counted, stopped_polling, is_execution, is_executed, rest_turn, TurnIs, TurnCase, Rests, CommandRingLost, Unreadable, Exceeds, BadConnection, Fetches, Executes, DeliversEnd, Notifies, Waits, ResponseRingLost, NoRoom}
 use Rattle.uda_port.specs.declared.profile.Profile.{Profile}
 use Rattle.uda_port.specs.declared.profile.Profile.TheVariants.{Strict, Compatible}
 use Rattle.uda_port.specs.Port.{PortState}
 use Rattle.uda_port.specs.Report.{end_text, next_text}
-use Rattle.uda_port.specs.Ring.{is_owned, next_descriptor}
+use Rattle.uda_port.specs.Fetch.{IsNext}
+use Rattle.uda_port.specs.Ring.{descriptor_at, is_owned, next_descriptor}
 use Rattle.uda_port.specs.Startup.{failed_port}
 use Rattle.uda_port.specs.Turn.{Unchanged, TurnEffect, RunningTurn, FetchRule, DeliverRule, NothingToFetch, NothingToDeliver, ExecutesOne, ExecutesFor, Fails, InFetch, InRest, may_fetch, port_with_message}
 use Rattle.uda_port.proofs.TurnLaws.{attention_first, first_text}
@@ -37,20 +41,20 @@ use Rattle.uda_port.proofs.TurnLaws.{attention_first, first_text}
 module _ (Is : ℕ → Type 0) (s : Step) where
   -- the pending command that a turn executed, of those that it may execute
   abbrev Picks : Turn → Type 0
-  Picks turn = (j : ℕ) → ExecutesOne j (silent s) s.memory s.new s.memory_after → turn ≡ did.Executed
-      → (k : ℕ) × (Is k × ExecutesOne k (silent s) s.memory s.new s.memory_after)
+  Picks turn = (j : ℕ) → ExecutesOne j (stopped_polling s) s.memory s.new s.memory_after → turn ≡ did.Executed
+      → (k : ℕ) × (Is k × ExecutesOne k (stopped_polling s) s.memory s.new s.memory_after)
 
   died : (cause : Fatal) (before : PortState) → s.old.phase ≡ Running
       → Fails cause (counted s) s.memory before s.memory_after → s.new ≡ failed_port before cause
       → TurnCase Is did.Dead s
   died cause before runs (InFetch rule) is = by cause rule is
     where
-      dead : Did did.Dead did.Dead s.old
+      dead : TurnIs did.Dead did.Dead s.old
       dead = record { runs = runs; answer = refl }
 
       by : (cause : Fatal) → FetchRule (counted s) s.memory (Err cause) before s.memory_after
           → s.new ≡ failed_port before cause → TurnCase Is did.Dead s
-      by fatal.RingRead rule is = NoCommands dead rule.0 (record {
+      by fatal.RingRead rule is = CommandRingLost dead rule.0 (record {
         state = is ∙ ap (λ (p : PortState). failed_port p fatal.RingRead) rule.1.state;
         memory_stays = rule.1.memory_stays;
       })
@@ -59,19 +63,19 @@ module _ (Is : ℕ → Type 0) (s : Step) where
         memory_stays = rule.1.memory_stays;
       })
       by fatal.CreditsExceeded rule is = Exceeds dead before rule is
-      by fatal.InvalidConnection rule is = Unconnected dead before rule is
+      by fatal.InvalidConnection rule is = BadConnection dead before rule is
       by _ rule is = absurd rule
   died cause before runs (InRest goes) is = by cause goes.rest.1 is
     where
-      dead : Did did.Dead did.Dead s.old
+      dead : TurnIs did.Dead did.Dead s.old
       dead = record { runs = runs; answer = refl }
 
       reaches : Delivers s.old s.memory
       reaches = record { nothing_to_fetch = goes.nothing_to_fetch; nothing_pending = goes.rest.0 }
 
-      by : (cause : Fatal) → DeliverRule (silent s) s.memory (Err cause) before s.memory_after
+      by : (cause : Fatal) → DeliverRule (stopped_polling s) s.memory (Err cause) before s.memory_after
           → s.new ≡ failed_port before cause → TurnCase Is did.Dead s
-      by fatal.RingRead rule is = NoResponses dead reaches rule.0 (record {
+      by fatal.RingRead rule is = ResponseRingLost dead reaches rule.0 (record {
         state = is ∙ ap (λ (p : PortState). failed_port p fatal.RingRead) rule.1.state;
         memory_stays = rule.1.memory_stays;
       })
@@ -127,13 +131,13 @@ module _ (Is : ℕ → Type 0) (turn : Turn) (s : Step) where
   at_rest (DeadPhase cause) rests answer same = record { answer = answer; unchanged = same }
   at_rest _ rests answer same = record { answer = answer; unchanged = same }
 
-  running : (wanted : Turn) → Did wanted turn s.old → RunningTurn s.old s.memory wanted s.new s.memory_after
+  running : (wanted : Turn) → TurnIs wanted turn s.old → RunningTurn s.old s.memory wanted s.new s.memory_after
       → TurnEffect s.old.phase s.old s.memory turn s.new s.memory_after
   running wanted d goes =
       subst (λ (t : Turn). TurnEffect s.old.phase s.old s.memory t s.new s.memory_after) (sym d.answer)
       (subst (λ (p : Phase). TurnEffect p s.old s.memory wanted s.new s.memory_after) (sym d.runs) goes)
 
-  dead : (cause : Fatal) (before : PortState) → Did did.Dead turn s.old
+  dead : (cause : Fatal) (before : PortState) → TurnIs did.Dead turn s.old
       → Fails cause (counted s) s.memory before s.memory_after → s.new ≡ failed_port before cause
       → TurnEffect s.old.phase s.old s.memory turn s.new s.memory_after
   dead cause before d fails is =
@@ -141,12 +145,12 @@ module _ (Is : ℕ → Type 0) (turn : Turn) (s : Step) where
 
   pub effect_of : TurnCase Is turn s → TurnEffect s.old.phase s.old s.memory turn s.new s.memory_after
   effect_of (Rests rests answer same) = at_rest s.old.phase rests answer same
-  effect_of (NoCommands d line same) =
+  effect_of (CommandRingLost d line same) =
       dead fatal.RingRead (counted s) d (InFetch (line, record { state = refl; memory_stays = same.memory_stays })) same.state
   effect_of (Unreadable d line same) =
       dead fatal.PacketRead (counted s) d (InFetch (line, record { state = refl; memory_stays = same.memory_stays })) same.state
   effect_of (Exceeds d before line is) = dead fatal.CreditsExceeded before d (InFetch line) is
-  effect_of (Unconnected d before line is) = dead fatal.InvalidConnection before d (InFetch line) is
+  effect_of (BadConnection d before line is) = dead fatal.InvalidConnection before d (InFetch line) is
   effect_of (Fetches d line) = running did.Fetched d line
   effect_of (Executes d nothing j is line) =
       running did.Executed d (record { nothing_to_fetch = nothing; rest = (j, line) })
@@ -156,12 +160,12 @@ module _ (Is : ℕ → Type 0) (turn : Turn) (s : Step) where
       (record { nothing_to_fetch = reaches.nothing_to_fetch; rest = (reaches.nothing_pending, line) })
   effect_of (Waits d reaches none same) = running did.Idle d
       (record { nothing_to_fetch = reaches.nothing_to_fetch; rest = (reaches.nothing_pending, (none, same)) })
-  effect_of (NoResponses d reaches line same) = dead fatal.RingRead (silent s) d
+  effect_of (ResponseRingLost d reaches line same) = dead fatal.RingRead (stopped_polling s) d
       (InRest (record {
         nothing_to_fetch = reaches.nothing_to_fetch;
         rest = (reaches.nothing_pending, (line, record { state = refl; memory_stays = same.memory_stays }));
       })) same.state
-  effect_of (NoRoom d reaches line same) = dead fatal.PacketWrite (silent s) d
+  effect_of (NoRoom d reaches line same) = dead fatal.PacketWrite (stopped_polling s) d
       (InRest (record {
         nothing_to_fetch = reaches.nothing_to_fetch;
         rest = (reaches.nothing_pending, (line, record { state = refl; memory_stays = same.memory_stays }));
@@ -181,7 +185,7 @@ some_executed old memory j new memory_after x = by old.profile x.executes
 
 module _ (port : PortState) (memory : List ℕ) where
   abbrev later_here : Plan
-  later_here = later_plan port memory
+  later_here = plan_without_fetch port memory
 
   plan_runs : port.phase ≡ Running
       → plan_of port memory ≡ plan_running (may_fetch port) (next_descriptor memory port.commands) later_here
@@ -218,7 +222,7 @@ module _ (port : PortState) (memory : List ℕ) where
           ap (λ (d : Option Descriptor). plan_found d later_here) f.is_next
           ∙ ap (λ (b : Bool). if b then ToFetch f.next else later_here) f.not_owned
 
-  pub later_executes : 0 < length port.exec.pending → later_here ≡ ToExecute
+  later_executes : 0 < length port.exec.pending → later_here ≡ ToExecute
   later_executes pending = by port.exec.pending pending
     where
       by : (cs : List Command) → 0 < length cs
@@ -258,14 +262,14 @@ module _ (port : PortState) (memory : List ℕ) where
 
     -- nothing is delivered: there is no message, or it waits
     pub data IsQuiet : Type 0 where
-      Silent : plan_of port memory ≡ NoMessage → IsQuiet
+      NoneWaits : plan_of port memory ≡ NoMessage → IsQuiet
       Waiting : plan_of port memory ≡ ToWait → IsQuiet
 
     pub plan_quiet : NothingToDeliver port memory → IsQuiet
     plan_quiet nothing = by (next_text port) refl
       where
         by : (text : Option (List ℕ)) → next_text port ≡ text → IsQuiet
-        by None next = Silent (plan_speaks None next)
+        by None next = NoneWaits (plan_speaks None next)
         by (Some text) next = let f = nothing text next in Waiting (plan_owned text f.next false next f.is_next f.not_owned)
 
 -- ---- a turn executes a command exactly if that is the plan
@@ -290,7 +294,7 @@ units_of port = port.exec.units
 -- a turn executed a command, as planned, or it didn't, and changed no unit
 pub data Outcome (Is : ℕ → Type 0) (turn : Turn) (s : Step) : Type 0 where
   Executing : plan_of s.old s.memory ≡ ToExecute → turn ≡ did.Executed → (j : ℕ) → Is j
-      → ExecutesOne j (silent s) s.memory s.new s.memory_after → Outcome Is turn s
+      → ExecutesOne j (stopped_polling s) s.memory s.new s.memory_after → Outcome Is turn s
   Other : is_execution (plan_of s.old s.memory) ≡ false → is_executed turn ≡ false → units_of s.new ≡ units_of s.old
       → Outcome Is turn s
 
@@ -305,7 +309,7 @@ module _ (Is : ℕ → Type 0) (turn : Turn) (s : Step) where
       Other (ap is_execution plan ∙ none) (ap is_executed answer ∙ never) units
 
   -- a fetch that was planned
-  taken : (wanted : Turn) (d : Descriptor) → is_executed wanted ≡ false → Did wanted turn s.old → may_fetch s.old ≡ true
+  taken : (wanted : Turn) (d : Descriptor) → is_executed wanted ≡ false → TurnIs wanted turn s.old → may_fetch s.old ≡ true
       → next_descriptor s.memory s.old.commands ≡ Some d → is_owned d ≡ true → units_of s.new ≡ units_of s.old
       → Outcome Is turn s
   taken wanted d never did looks next owned units =
@@ -315,7 +319,7 @@ module _ (Is : ℕ → Type 0) (turn : Turn) (s : Step) where
   outcome (Rests rests answer same) =
       other AtRest (rest_turn s.old.phase) refl (never_rest s.old.phase) (plan_rests s.old s.memory rests) answer
       (ap units_of same.state)
-  outcome (NoCommands d line same) =
+  outcome (CommandRingLost d line same) =
       other NoCommandRing did.Dead refl refl (plan_outside s.old s.memory d.runs line.looks line.no_descriptor) d.answer
       (ap units_of same.state)
   outcome (Unreadable d line same) =
@@ -324,7 +328,7 @@ module _ (Is : ℕ → Type 0) (turn : Turn) (s : Step) where
   outcome (Exceeds d before line is) =
       let t = line.taken.takes in
       taken did.Dead t.first refl d line.taken.looks t.is_next t.owned (ap units_of is ∙ ap units_of line.taken.others)
-  outcome (Unconnected d before line is) =
+  outcome (BadConnection d before line is) =
       let t = line.taken.takes in
       taken did.Dead t.first refl d line.taken.looks t.is_next t.owned (ap units_of is ∙ ap units_of line.taken.others)
   outcome (Fetches d line) =
@@ -333,7 +337,7 @@ module _ (Is : ℕ → Type 0) (turn : Turn) (s : Step) where
       (ap units_of line.others ∙ units_with (counted s) (message_in s.old.profile line.packet))
   outcome (Executes d nothing j is line) =
       Executing (plan_executes s.old s.memory d.runs nothing
-      (some_executed (silent s) s.memory j s.new s.memory_after line)) d.answer j is line
+      (some_executed (stopped_polling s) s.memory j s.new s.memory_after line)) d.answer j is line
   outcome (DeliversEnd d reaches line) =
       let t = line.puts in
       let text = end_text s.old line.end in
@@ -348,9 +352,9 @@ module _ (Is : ℕ → Type 0) (turn : Turn) (s : Step) where
   outcome (Waits d reaches none same) = by (plan_quiet s.old s.memory d.runs reaches none)
     where
       by : IsQuiet s.old s.memory d.runs reaches → Outcome Is turn s
-      by (Silent plan) = other NoMessage did.Idle refl refl plan d.answer (ap units_of same.state)
+      by (NoneWaits plan) = other NoMessage did.Idle refl refl plan d.answer (ap units_of same.state)
       by (Waiting plan) = other ToWait did.Idle refl refl plan d.answer (ap units_of same.state)
-  outcome (NoResponses d reaches line same) =
+  outcome (ResponseRingLost d reaches line same) =
       other NoResponseRing did.Dead refl refl
       (plan_lost s.old s.memory d.runs reaches line.text line.is_next line.no_descriptor) d.answer (ap units_of same.state)
   outcome (NoRoom d reaches line same) =
@@ -385,51 +389,80 @@ turns_at place before turn after c = record {
 }
   where
     by : Outcome (λ k. k ≡ place) turn (step_of before after) → turn ≡ did.Executed
-        → ExecutesOne place (silent (step_of before after)) before.1 after.0 after.1
+        → ExecutesOne place (stopped_polling (step_of before after)) before.1 after.0 after.1
     by (Executing plan is j at x) executed =
-        subst (λ (k : ℕ). ExecutesOne k (silent (step_of before after)) before.1 after.0 after.1) at x
+        subst (λ (k : ℕ). ExecutesOne k (stopped_polling (step_of before after)) before.1 after.0 after.1) at x
     by (Other none never units) executed = absurd (let no = sym never ∙ ap is_executed executed in cc)
 
--- a turn that is to execute a command
-pub record IsExecution (port : PortState) (memory : List ℕ) : Type 0 where
+-- ---- what a plan follows from
+
+-- a command is executed
+pub record IsExecution (port : PortState) : Type 0 where
   pub runs : port.phase ≡ Running
-  pub nothing_to_fetch : NothingToFetch port memory
   pub pending : 0 < length port.exec.pending
 
+abbrev pub Follows : PortState → List ℕ → Plan → Type 0
+Follows port memory (ToFetch d) = IsNext port.commands memory d
+Follows port memory ToExecute = IsExecution port
+Follows port memory (ToDeliver d n) = IsNext port.responses memory d
+Follows port memory _ = Unit {0}
+
 module _ (port : PortState) (memory : List ℕ) where
-  pending_by : (cs : List Command) (size : Option ℕ) (next : Option Descriptor)
-      → plan_later cs size next ≡ ToExecute → 0 < length cs
-  pending_by (c ∷ cs) size next is = omega arith
-  pending_by [] None next is = absurd (cc)
-  pending_by [] (Some n) None is = absurd (cc)
-  pending_by [] (Some n) (Some d) is = by (is_owned d) is
+  abbrev Here : Plan → Type 0
+  Here plan = Follows port memory plan
+
+  delivers : (n : ℕ) (response : Option Descriptor) → next_descriptor memory port.responses ≡ response
+      → Here (plan_message n response)
+  delivers n None here = tt
+  delivers n (Some d) here = by (is_owned d) refl
     where
-      by : (b : Bool) → (if b then ToDeliver d n else ToWait) ≡ ToExecute → 0 < 0
-      by true is = absurd (cc)
-      by false is = absurd (cc)
+      by : (b : Bool) → is_owned d ≡ b → Here (if b then ToDeliver d n else ToWait)
+      by true owned = record { is_next = here; owned = owned }
+      by false owned = tt
 
-  later_by : (b : Bool) (next : Option Descriptor) (later : Plan) → may_fetch port ≡ b
-      → next_descriptor memory port.commands ≡ next → plan_running b next later ≡ ToExecute
-      → NothingToFetch port memory × (later ≡ ToExecute)
-  later_by false next later looks here is = ((λ may. absurd (let no = sym looks ∙ may in cc)), is)
-  later_by true None later looks here is = absurd (cc)
-  later_by true (Some d) later looks here is = by (is_owned d) refl is
+  goes_on : port.phase ≡ Running → (cs : List Command) (size : Option ℕ) → port.exec.pending ≡ cs
+      → Here (plan_later cs size (next_descriptor memory port.responses))
+  goes_on runs (c ∷ cs) size is = record { runs = runs; pending = rw is (omega arith) }
+  goes_on runs [] None is = tt
+  goes_on runs [] (Some n) is = delivers n (next_descriptor memory port.responses) refl
+
+  finds : (command : Option Descriptor) (later : Plan) → next_descriptor memory port.commands ≡ command → Here later
+      → Here (plan_found command later)
+  finds None later here f = tt
+  finds (Some d) later here f = by (is_owned d) refl
     where
-      by : (b : Bool) → is_owned d ≡ b → (if b then ToFetch d else later) ≡ ToExecute
-          → NothingToFetch port memory × (later ≡ ToExecute)
-      by true owned is = absurd (cc)
-      by false owned is = ((λ may. record { next = d; is_next = here; not_owned = owned }), is)
+      by : (b : Bool) → is_owned d ≡ b → Here (if b then ToFetch d else later)
+      by true owned = record { is_next = here; owned = owned }
+      by false owned = f
 
-  runs_by : (phase : Phase) (plan : Plan) → plan_in phase plan ≡ ToExecute → (phase ≡ Running) × (plan ≡ ToExecute)
-  runs_by Running plan is = (refl, is)
-  runs_by _ plan is = absurd (cc)
+  looks : (b : Bool) (later : Plan) → Here later
+      → Here (plan_running b (next_descriptor memory port.commands) later)
+  looks true later f = finds (next_descriptor memory port.commands) later refl f
+  looks false later f = f
 
-  pub execution : plan_of port memory ≡ ToExecute → IsExecution port memory
-  execution is =
-      let here = runs_by port.phase _ is in
-      let running = later_by (may_fetch port) _ _ refl refl here.1 in
-      record {
-        runs = here.0;
-        nothing_to_fetch = running.0;
-        pending = pending_by port.exec.pending (next_size port) (next_descriptor memory port.responses) running.1;
-      }
+  pub follows : Here (plan_of port memory)
+  follows = by port.phase refl
+    where
+      later : Plan
+      later = plan_without_fetch port memory
+
+      by : (phase : Phase) → port.phase ≡ phase
+          → Here (plan_in phase (plan_running (may_fetch port) (next_descriptor memory port.commands) later))
+      by Running runs = looks (may_fetch port) later (goes_on runs port.exec.pending (next_size port) refl)
+      by _ runs = tt
+
+  pub execution : plan_of port memory ≡ ToExecute → IsExecution port
+  execution is = subst Here is follows
+
+-- a descriptor that was read is in memory
+pub read_within : (memory : List ℕ) (at : ℕ) (d : Descriptor) → descriptor_at memory at ≡ Some d
+    → at + 4 ≤ length memory
+read_within memory at d is = by (nat_le (at + 4) (length memory)) refl is
+  where
+    read : Descriptor
+    read = record { low = word_at memory at; high = word_at memory (at + 2) }
+
+    by : (b : Bool) → nat_le (at + 4) (length memory) ≡ b → (if b then Some read else None) ≡ Some d
+        → at + 4 ≤ length memory
+    by true within is = leb-true _ _ within
+    by false within is = absurd (cc)

@@ -35,7 +35,7 @@ use Rattle.uda_port.specs.Port.{PortState, next_grant, credits_granted, response
 use Rattle.uda_port.specs.Interrupt.{interrupts_asked}
 use Rattle.uda_port.specs.Startup.{has_bit, area_of, has_area, refuses_second, refuses_third, asks_test, after_wrap_request, after_sa_write, failed_port, port_with_rings, memory_with_area}
 use Rattle.uda_port.specs.Turn.{Unchanged, port_with_message, TakesPacket, FetchesOne, DeliversOne, TurnEffect}
-use Rattle.uda_port.specs.Plan.{Step, counted, silent, Did, Rests, NoCommands, Unreadable, Exceeds, Unconnected, Fetches, Executes, DeliversEnd, Notifies, Waits, NoResponses, NoRoom}
+use Rattle.uda_port.specs.Plan.{Step, counted, stopped_polling, TurnIs, Rests, CommandRingLost, Unreadable, Exceeds, BadConnection, Fetches, Executes, DeliversEnd, Notifies, Waits, ResponseRingLost, NoRoom}
 use Rattle.uda_port.specs.Events.{Delivers, EventEffect, EventsEffect}
 use Rattle.uda_port.proofs.PlanLaws.{AnyCase, case_of, effect_of}
 use Rattle.uda_port.specs.Possible.{has_run, has_rings, has_phase, can_interrupt, rings_fit, is_base_by, is_next_to, are_unused, is_unset, guest_fits, queue_fits, is_first_position, HasNoWork}
@@ -348,7 +348,7 @@ module _ (k : Counts) (turn : Turn) (s : Step) (begun : nat_lt 0 k.deliveries �
       → Unchanged (with_counts more p) s.memory (with_counts more s.new) s.memory_after
   with more p same = record { state = ap (with_counts more) same.state; memory_stays = same.memory_stays }
 
-  did : (wanted : Turn) → Did wanted turn s.old → Did wanted turn (with_counts k s.old)
+  did : (wanted : Turn) → TurnIs wanted turn s.old → TurnIs wanted turn (with_counts k s.old)
   did wanted d = record { runs = d.runs; answer = d.answer }
 
   reach : Delivers s.old s.memory → Delivers (with_counts k s.old) s.memory
@@ -361,7 +361,7 @@ module _ (k : Counts) (turn : Turn) (s : Step) (begun : nat_lt 0 k.deliveries �
   grants : next_grant k.deliveries ≡ next_grant s.old.deliveries
   grants = same_grant k.deliveries s.old.deliveries begun
 
-  fetched : Did Fetched turn s.old → FetchesOne (counted s) s.memory s.new s.memory_after → TurnsAlso
+  fetched : TurnIs Fetched turn s.old → FetchesOne (counted s) s.memory s.new s.memory_after → TurnsAlso
   fetched d f =
       let m = message_in s.old.profile f.packet in
       let more = one_fetched once in
@@ -382,8 +382,8 @@ module _ (k : Counts) (turn : Turn) (s : Step) (begun : nat_lt 0 k.deliveries �
         others = ap (with_counts more) f.others ∙ message_same once (counted s) m changes (s.old.fetches + 1);
       }))
 
-  delivered : Did Delivered turn s.old → Delivers s.old s.memory
-      → DeliversOne (silent s) s.memory s.new s.memory_after → TurnsAlso
+  delivered : TurnIs Delivered turn s.old → Delivers s.old s.memory
+      → DeliversOne (stopped_polling s) s.memory s.new s.memory_after → TurnsAlso
   delivered d r line =
       let more = record once { deliveries = k.deliveries + 1 } in
       let granted : ℕ → Delivery = λ n. record {
@@ -391,7 +391,7 @@ module _ (k : Counts) (turn : Turn) (s : Step) (begun : nat_lt 0 k.deliveries �
         credits = n;
         indicator = response_indicator s.old s.memory;
       } in
-      let left : ℕ → PortState = λ n. record (with_counts more (silent s)) {
+      let left : ℕ → PortState = λ n. record (with_counts more (stopped_polling s)) {
         responses = s.new.responses;
         waiting = s.new.waiting;
         polling = lacks_credit s.old.profile s.old.credits || false;
@@ -411,8 +411,8 @@ module _ (k : Counts) (turn : Turn) (s : Step) (begun : nat_lt 0 k.deliveries �
 
   turns_also : AnyCase turn s → TurnsAlso
   turns_also (Rests rests answer same) = leaves k s.old same.state begun (Rests rests answer (with k s.old same))
-  turns_also (NoCommands d line same) =
-      leaves once _ same.state begun (NoCommands (did DeadTurn d)
+  turns_also (CommandRingLost d line same) =
+      leaves once _ same.state begun (CommandRingLost (did DeadTurn d)
       (record { looks = line.looks; no_descriptor = line.no_descriptor }) (with once _ same))
   turns_also (Unreadable d line same) =
       leaves once _ same.state begun (Unreadable (did DeadTurn d)
@@ -425,9 +425,9 @@ module _ (k : Counts) (turn : Turn) (s : Step) (begun : nat_lt 0 k.deliveries �
         strict = line.strict;
         no_credit = line.no_credit;
       }) (ap (with_counts once) is))
-  turns_also (Unconnected d before line is) =
+  turns_also (BadConnection d before line is) =
       leaves once _ (is ∙ ap (λ (p : PortState). failed_port p InvalidConnection) line.taken.others) begun
-      (Unconnected (did DeadTurn d) (with_counts once before) (record {
+      (BadConnection (did DeadTurn d) (with_counts once before) (record {
         packet = line.packet;
         taken = takes line.packet before line.taken;
         credit = line.credit;
@@ -450,8 +450,8 @@ module _ (k : Counts) (turn : Turn) (s : Step) (begun : nat_lt 0 k.deliveries �
       }))
   turns_also (Waits d r none same) =
       leaves once _ same.state begun (Waits (did Idle d) (reach r) none (with once _ same))
-  turns_also (NoResponses d r line same) =
-      leaves once _ same.state begun (NoResponses (did DeadTurn d) (reach r)
+  turns_also (ResponseRingLost d r line same) =
+      leaves once _ same.state begun (ResponseRingLost (did DeadTurn d) (reach r)
       (record { text = line.text; is_next = line.is_next; no_descriptor = line.no_descriptor }) (with once _ same))
   turns_also (NoRoom d r line same) =
       leaves once _ same.state begun (NoRoom (did DeadTurn d) (reach r)

@@ -10,7 +10,9 @@ use Rattle.uda_port.specs.declared.turn_at.Fate.{Fate}
 use Rattle.uda_port.specs.declared.turn_at.Fate.TheVariants.{Usual, FailsInFetch, FailsLater, WithoutBuffer}
 use Rattle.uda_port.specs.BlockUse.{memory_by, memory_executed, blocks_in, written_in, blocks_of, block_bytes_of}
 use Rattle.uda_port.specs.MemoryUse.{access_of, fate_of, EffectBy, EffectWithout, HasValidRings}
-use Rattle.uda_port.specs.Plan.{Plan, ToExecute, is_execution, plan_of}
+use Rattle.uda_port.specs.declared.plan.Plan.{Plan}
+use Rattle.uda_port.specs.declared.plan.Plan.TheVariants.{ToExecute}
+use Rattle.uda_port.specs.Plan.{is_execution, plan_of}
 use Rattle.uda_port.specs.Port.{PortState}
 use Rattle.uda_port.specs.Turn.{ExecutesOne, may_fetch, port_turn_on, port_not_polling}
 use Rattle.uda_port.proofs.MemoryUseLaws.{as_guest, without_buffer}

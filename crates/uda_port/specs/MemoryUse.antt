@@ -28,7 +28,9 @@ use Rattle.uda_port.specs.Possible.{CanDie}
 use Rattle.uda_port.specs.Ring.{RingState, descriptor_address}
 use Rattle.uda_port.specs.Interrupt.{ring_before}
 use Rattle.uda_port.specs.Packet.{text_address}
-use Rattle.uda_port.specs.Plan.{Plan, ToFetch, ToExecute, ToWait, NoResponseRing, ToDeliver, plan_of}
+use Rattle.uda_port.specs.declared.plan.Plan.{Plan}
+use Rattle.uda_port.specs.declared.plan.Plan.TheVariants.{ToFetch, ToExecute, ToWait, NoResponseRing, ToDeliver}
+use Rattle.uda_port.specs.Plan.{plan_of}
 use Rattle.uda_port.specs.Port.{PortState, command_indicator, response_indicator}
 use Rattle.uda_port.specs.Startup.{failed_port}
 use Rattle.uda_port.specs.Turn.{TurnEffect, ExecutesOne, may_fetch, port_turn_on, port_not_polling}

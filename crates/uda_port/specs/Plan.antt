@@ -1,4 +1,4 @@
--- What a turn will do, decided by the port and by the descriptors that it reads; and what a turn did.
+-- What the next turn will do, decided by the port and by the descriptors that it reads; and what a turn did.
 -- UDA50 Programmer's Documentation Kit: command ring polling, message envelopes, fatal errors.
 use Rattle.std.specs.Prelude.{◌≡◌, ℕ, Bool, true, false, List, [], ◌∷◌, length, Option, Some, None, option_map, if◌then◌else◌}
 use Rattle.uda_packet.specs.declared.command.Command.{Command}
@@ -7,6 +7,9 @@ use Rattle.uda_port.specs.declared.phase.Fatal.TheVariants.{PacketRead, PacketWr
 use Rattle.uda_port.specs.declared.phase.Fatal.TheVariants.{CreditsExceeded, InvalidConnection}
 use Rattle.uda_port.specs.declared.phase.Phase.{Phase}
 use Rattle.uda_port.specs.declared.phase.Phase.TheVariants.{Running, Dead as DeadPhase}
+use Rattle.uda_port.specs.declared.plan.Plan.{Plan}
+use Rattle.uda_port.specs.declared.plan.Plan.TheVariants.{AtRest, NoCommandRing, ToFetch, ToExecute}
+use Rattle.uda_port.specs.declared.plan.Plan.TheVariants.{NoMessage, ToWait, NoResponseRing, ToDeliver}
 use Rattle.uda_port.specs.declared.turn.Turn.{Turn}
 use Rattle.uda_port.specs.declared.turn.Turn.TheVariants.{Fetched, Executed, Delivered, Notified, Idle, Dead}
 use Rattle.uda_port.specs.Events.{Delivers}
@@ -15,56 +18,47 @@ use Rattle.uda_port.specs.Report.{next_text}
 use Rattle.uda_port.specs.Ring.{is_owned, next_descriptor}
 use Rattle.uda_port.specs.Startup.{failed_port}
 use Rattle.uda_port.specs.Turn.{Unchanged, FetchesOne, NothingToFetch, CommandRingOutsideMemory, CommandUnreadable}
-use Rattle.uda_port.specs.Turn.{ExceedsCredits, HasInvalidConnection, ExecutesOne, DeliversOne, NotifiesOne, NothingToDeliver}
-use Rattle.uda_port.specs.Turn.{ResponseRingOutsideMemory, ResponseUnwritable, may_fetch, port_turn_on, port_not_polling}
+use Rattle.uda_port.specs.Turn.{ExceedsCredits, HasInvalidConnection, ExecutesOne, DeliversOne, NotifiesOne}
+use Rattle.uda_port.specs.Turn.{NothingToDeliver, ResponseRingOutsideMemory, ResponseUnwritable, may_fetch}
+use Rattle.uda_port.specs.Turn.{port_turn_on, port_not_polling}
 
--- ---- what a turn will do
+-- ---- what the next turn will do
 
--- The port doesn't run. It looks for a command, and the next command descriptor isn't in memory, or is this one. It
--- executes a pending command. It has no message; or the host owns the next response descriptor, or that isn't in
--- memory. Or it delivers a message of this many bytes to the buffer of this descriptor.
-pub data Plan : Type 0 where
-  AtRest : Plan
-  NoCommandRing : Plan
-  ToFetch : Descriptor → Plan
-  ToExecute : Plan
-  NoMessage : Plan
-  ToWait : Plan
-  NoResponseRing : Plan
-  ToDeliver : Descriptor → ℕ → Plan
-
--- a message of n bytes waits for this response descriptor
+-- a message of n bytes waits: the plan by the next response descriptor, None if it isn't in memory
 abbrev pub plan_message : ℕ → Option Descriptor → Plan
 plan_message n None = NoResponseRing
 plan_message n (Some d) = if is_owned d then ToDeliver d n else ToWait
 
--- nothing is fetched: a pending command is executed, or else a message of this length delivered
+-- nothing is fetched: the plan by the pending commands, the size of the next message, and the next response
+-- descriptor
 abbrev pub plan_later : List Command → Option ℕ → Option Descriptor → Plan
 plan_later (c ∷ cs) size response = ToExecute
 plan_later [] None response = NoMessage
 plan_later [] (Some n) response = plan_message n response
 
--- the next command descriptor is this
+-- the port looks for a command: the plan by the next command descriptor, and by the plan if nothing is fetched
 abbrev pub plan_found : Option Descriptor → Plan → Plan
 plan_found None later = NoCommandRing
 plan_found (Some d) later = if is_owned d then ToFetch d else later
 
--- the port may fetch, or may not
+-- the plan of a running port, by whether it looks for a command
 abbrev pub plan_running : Bool → Option Descriptor → Plan → Plan
 plan_running true command later = plan_found command later
 plan_running false command later = later
 
+-- the plan by the phase, and by the plan if the port runs
 abbrev pub plan_in : Phase → Plan → Plan
 plan_in Running plan = plan
 plan_in _ plan = AtRest
 
--- the number of bytes of the next message, if there is one
+-- the number of bytes of the next message, if there is one: an attention message first, then an end message
 abbrev pub next_size : PortState → Option ℕ
 next_size port = option_map (λ text. length text) (next_text port)
 
--- the plan of a port that has nothing to fetch
-abbrev pub later_plan : PortState → List ℕ → Plan
-later_plan port memory = plan_later port.exec.pending (next_size port) (next_descriptor memory port.responses)
+-- the plan of a running port that has nothing to fetch
+abbrev pub plan_without_fetch : PortState → List ℕ → Plan
+plan_without_fetch port memory =
+    plan_later port.exec.pending (next_size port) (next_descriptor memory port.responses)
 
 -- the plan of a port whose next command and response descriptors are these
 abbrev pub plan_by : PortState → Option Descriptor → Option Descriptor → Plan
@@ -90,12 +84,13 @@ pub record Step : Type 0 where
   pub new : PortState
   pub memory_after : List ℕ
 
--- the port when its rules are tried, and when the first of them doesn't fit
+-- a running port counts the turn, and then tries its rules
 abbrev pub counted : Step → PortState
 counted s = port_turn_on s.old
 
-abbrev pub silent : Step → PortState
-silent s = port_not_polling (port_turn_on s.old)
+-- it stops polling when it has nothing to fetch
+abbrev pub stopped_polling : Step → PortState
+stopped_polling s = port_not_polling (port_turn_on s.old)
 
 -- whether a turn executed a command
 abbrev pub is_executed : Turn → Bool
@@ -108,7 +103,7 @@ rest_turn (DeadPhase cause) = Dead
 rest_turn _ = Idle
 
 -- the turn of a running port is this
-pub record Did (wanted turn : Turn) (old : PortState) : Type 0 where
+pub record TurnIs (wanted turn : Turn) (old : PortState) : Type 0 where
   pub runs : old.phase ≡ Running
   pub answer : turn ≡ wanted
 
@@ -116,25 +111,25 @@ pub record Did (wanted turn : Turn) (old : PortState) : Type 0 where
 pub data TurnCase (Is : ℕ → Type 0) (turn : Turn) (s : Step) : Type 0 where
   Rests : (s.old.phase ≡ Running → ⊥) → turn ≡ rest_turn s.old.phase
       → Unchanged s.old s.memory s.new s.memory_after → TurnCase Is turn s
-  NoCommands : Did Dead turn s.old → CommandRingOutsideMemory (counted s) s.memory
+  CommandRingLost : TurnIs Dead turn s.old → CommandRingOutsideMemory (counted s) s.memory
       → Unchanged (failed_port (counted s) RingRead) s.memory s.new s.memory_after → TurnCase Is turn s
-  Unreadable : Did Dead turn s.old → CommandUnreadable (counted s) s.memory
+  Unreadable : TurnIs Dead turn s.old → CommandUnreadable (counted s) s.memory
       → Unchanged (failed_port (counted s) PacketRead) s.memory s.new s.memory_after → TurnCase Is turn s
-  Exceeds : Did Dead turn s.old → (before : PortState) → ExceedsCredits (counted s) s.memory before s.memory_after
+  Exceeds : TurnIs Dead turn s.old → (before : PortState) → ExceedsCredits (counted s) s.memory before s.memory_after
       → s.new ≡ failed_port before CreditsExceeded → TurnCase Is turn s
-  Unconnected : Did Dead turn s.old → (before : PortState)
+  BadConnection : TurnIs Dead turn s.old → (before : PortState)
       → HasInvalidConnection (counted s) s.memory before s.memory_after
       → s.new ≡ failed_port before InvalidConnection → TurnCase Is turn s
-  Fetches : Did Fetched turn s.old → FetchesOne (counted s) s.memory s.new s.memory_after → TurnCase Is turn s
-  Executes : Did Executed turn s.old → NothingToFetch s.old s.memory → (j : ℕ) → Is j
-      → ExecutesOne j (silent s) s.memory s.new s.memory_after → TurnCase Is turn s
-  DeliversEnd : Did Delivered turn s.old → Delivers s.old s.memory
-      → DeliversOne (silent s) s.memory s.new s.memory_after → TurnCase Is turn s
-  Notifies : Did Notified turn s.old → Delivers s.old s.memory
-      → NotifiesOne (silent s) s.memory s.new s.memory_after → TurnCase Is turn s
-  Waits : Did Idle turn s.old → Delivers s.old s.memory → NothingToDeliver s.old s.memory
-      → Unchanged (silent s) s.memory s.new s.memory_after → TurnCase Is turn s
-  NoResponses : Did Dead turn s.old → Delivers s.old s.memory → ResponseRingOutsideMemory (silent s) s.memory
-      → Unchanged (failed_port (silent s) RingRead) s.memory s.new s.memory_after → TurnCase Is turn s
-  NoRoom : Did Dead turn s.old → Delivers s.old s.memory → ResponseUnwritable (silent s) s.memory
-      → Unchanged (failed_port (silent s) PacketWrite) s.memory s.new s.memory_after → TurnCase Is turn s
+  Fetches : TurnIs Fetched turn s.old → FetchesOne (counted s) s.memory s.new s.memory_after → TurnCase Is turn s
+  Executes : TurnIs Executed turn s.old → NothingToFetch s.old s.memory → (j : ℕ) → Is j
+      → ExecutesOne j (stopped_polling s) s.memory s.new s.memory_after → TurnCase Is turn s
+  DeliversEnd : TurnIs Delivered turn s.old → Delivers s.old s.memory
+      → DeliversOne (stopped_polling s) s.memory s.new s.memory_after → TurnCase Is turn s
+  Notifies : TurnIs Notified turn s.old → Delivers s.old s.memory
+      → NotifiesOne (stopped_polling s) s.memory s.new s.memory_after → TurnCase Is turn s
+  Waits : TurnIs Idle turn s.old → Delivers s.old s.memory → NothingToDeliver s.old s.memory
+      → Unchanged (stopped_polling s) s.memory s.new s.memory_after → TurnCase Is turn s
+  ResponseRingLost : TurnIs Dead turn s.old → Delivers s.old s.memory → ResponseRingOutsideMemory (stopped_polling s) s.memory
+      → Unchanged (failed_port (stopped_polling s) RingRead) s.memory s.new s.memory_after → TurnCase Is turn s
+  NoRoom : TurnIs Dead turn s.old → Delivers s.old s.memory → ResponseUnwritable (stopped_polling s) s.memory
+      → Unchanged (failed_port (stopped_polling s) PacketWrite) s.memory s.new s.memory_after → TurnCase Is turn s

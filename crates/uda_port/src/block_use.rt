@@ -14,7 +14,7 @@ use uda_image::BlockStore;
 
 impl<S: BlockStore> Port<S> {
     /// Returns the blocks that the next turn uses, if it executes the pending command at index `place`
-    /// ([`turn_traced_at`](Port::turn_traced_at)). Returns None if it executes none, if a check of the command
+    /// ([`turn_at`](Port::turn_at)). Returns None if it executes none, if a check of the command
     /// fails, or if the command uses no blocks. Of memory only what the turn reads matters.
     ///
     /// A caller that reads and writes its images by calls of its own makes these blocks ready before the turn.
@@ -22,7 +22,7 @@ impl<S: BlockStore> Port<S> {
         requires memory { IsMemory memory.now }
         ensures blocks { result ≡ blocks_of missing self.now memory.now place }
     {
-        let memory = self.memory_for(memory, place, missing)?;
+        let memory = self.memory_for(memory, missing)?;
         self.exec.block_use_at(place, uda_mem::len(memory))
     }
 
@@ -43,19 +43,19 @@ impl<S: BlockStore> Port<S> {
             then part (block_bytes_of missing self.now memory.now place) (512 * skip) (length to.old)
             else to.old) }
     {
-        match self.memory_for(memory, place, missing) {
+        match self.memory_for(memory, missing) {
             Some(memory) => self.exec.copy_written(place, memory, skip, to),
             None => asks_none(skip, to),
         }
     }
 
-    // Returns the memory in which the next turn executes the pending command at this index, if it executes one.
-    fn memory_for<'m>(&self, memory: &'m [u8], place: usize, missing: Missing) -> Option<&'m [u8]>
+    // Returns the memory in which the next turn executes a pending command, if it executes one.
+    fn memory_for<'m>(&self, memory: &'m [u8], missing: Missing) -> Option<&'m [u8]>
         requires memory { IsMemory memory.now }
         ensures memory { option_map (λ m. m.now) result ≡ memory_for missing self.now memory.now }
         ensures valid { IfSome result (λ m. IsMemory m.now) }
     {
-        let access = self.memory_use(memory, place).access;
+        let access = self.plan(memory).access();
         let fate = self.fate(missing, access);
         memory_executed(access, fate, memory)
     }

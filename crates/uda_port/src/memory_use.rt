@@ -1,25 +1,26 @@
 //! What a turn reads and writes of host memory.
 //!
 //! UDA50 Programmer's Documentation Kit: command ring polling, message envelopes, UNIBUS addresses.
-ghost use Rattle.std.specs.Prelude.{◌≡◌, ◌≤◌, ◌<◌, ◌+◌, ℕ, List, All, IfSome, Some, length};
+ghost use Rattle.std.specs.Prelude.{◌≡◌, ◌≤◌, ◌<◌, ◌+◌, ℕ, List, All, length};
 ghost use Rattle.uda_mem.specs.Slices.{IsMemory};
 ghost use Rattle.uda_mem.specs.Ranges.{LiesIn, range_in};
 ghost use Rattle.uda_exec.specs.Disks.{PENDING_LIMIT};
 ghost use Rattle.uda_port.specs.Fetch.{IsNext};
 ghost use Rattle.uda_port.specs.Interrupt.{ring_before};
 ghost use Rattle.uda_port.specs.Packet.{text_address};
-ghost use Rattle.uda_port.specs.Ring.{descriptor_address, next_descriptor};
-ghost use Rattle.uda_port.specs.Turn.{may_fetch};
+ghost use Rattle.uda_port.specs.Ring.{descriptor_address};
 ghost use Rattle.uda_port.specs.MemoryUse.{IsPlace, descriptor_ranges, packet_range, indicator_range, returned_range};
 ghost use Rattle.uda_port.specs.MemoryUse.{no_use, fetch_use, written_by_fetch, has_text, command_use, delivery_use};
 ghost use Rattle.uda_port.specs.MemoryUse.{has_room, looked_up, use_by, use_of, AgreesInDescriptors};
-ghost use Rattle.uda_port.specs.Plan.{plan_running, later_plan, next_size};
+ghost use Rattle.uda_port.specs.Plan.{plan_of};
+ghost use Rattle.uda_port.specs.declared.descriptor.Descriptor.{Descriptor as DescriptorValue};
+ghost use Rattle.uda_port.specs.declared.plan.Plan.TheVariants.{ToDeliver};
 
 use crate::descriptor::Descriptor;
 use crate::packet::{TEXT, has_room, has_text};
-use crate::phase::Phase;
+use crate::plan::Plan;
 use crate::port::Port;
-use crate::ring::{NextDescriptor, Ring};
+use crate::ring::Ring;
 use uda_exec::BufferUse;
 use uda_image::BlockStore;
 use uda_mem::ByteRange;
@@ -72,8 +73,8 @@ pub(crate) const NONE_WRITTEN: [ByteRange; 4] = [
 
 impl<S: BlockStore> Port<S> {
     /// Returns the index of the pending command that the next turn executes, if it executes one. It is for
-    /// [`memory_use`](Port::memory_use) and [`turn_traced_at`](Port::turn_traced_at), and remains valid until
-    /// something else is done with the port.
+    /// [`memory_use`](Port::memory_use) and [`turn_at`](Port::turn_at), and remains valid until something else is
+    /// done with the port.
     pub fn next_place(&self) -> usize
         ensures place { IsPlace self.now.exec.pending result }
         ensures within { result < PENDING_LIMIT }
@@ -107,37 +108,28 @@ impl<S: BlockStore> Port<S> {
         ensures body_within { LiesIn memory.now result.body }
         ensures written_within { All (LiesIn memory.now) result.written }
     {
-        self.use_by_phase(memory, place)
+        self.use_by(self.plan(memory), memory, place)
     }
 
-    // Returns what the next turn uses of memory.
-    fn use_by_phase(&self, memory: &[u8], place: usize) -> MemoryUse
+    // Returns what a turn of this plan uses of memory.
+    #[tactic(auto, using(crate::proofs::MemoryUseLaws::none_lies))]
+    pub(crate) fn use_by(&self, plan: Plan, memory: &[u8], place: usize) -> MemoryUse
         requires memory { IsMemory memory.now }
-        ensures uses { result ≡ use_of self.now memory.now place }
+        requires plan { plan ≡ plan_of self.now memory.now }
+        requires short { (next : DescriptorValue) (size : ℕ) → plan ≡ ToDeliver next size → size ≤ 48 }
+        ensures uses { result ≡ use_by self.now memory.now place plan }
         ensures body_within { LiesIn memory.now result.body }
         ensures written_within { All (LiesIn memory.now) result.written }
     {
-        match self.phase {
-            Phase::Running => self.use_running(memory, place),
-            _ => no_use(Access::Nothing),
-        }
-    }
-
-    // Returns what a running port uses.
-    fn use_running(&self, memory: &[u8], place: usize) -> MemoryUse
-        requires memory { IsMemory memory.now }
-        ensures uses { result ≡ use_by self.now memory.now place (plan_running (may_fetch self.now)
-            (next_descriptor memory.now self.now.commands) (later_plan self.now memory.now)) }
-        ensures body_within { LiesIn memory.now result.body }
-        ensures written_within { All (LiesIn memory.now) result.written }
-    {
-        if !self.may_fetch() {
-            return self.use_without_fetch(memory, place);
-        }
-        match self.commands.next(memory) {
-            NextDescriptor::OutsideMemory => no_use(Access::Nothing),
-            NextDescriptor::OwnedByHost => self.use_without_fetch(memory, place),
-            NextDescriptor::OwnedByPort(next) => self.fetch_use(memory, next),
+        match plan {
+            Plan::AtRest => no_use(Access::Nothing),
+            Plan::NoCommandRing => no_use(Access::Nothing),
+            Plan::ToFetch(next) => self.fetch_use(memory, next),
+            Plan::ToExecute => command_use(memory, self.exec.buffer_use_at(place)),
+            Plan::NoMessage => no_use(Access::Nothing),
+            Plan::ToWait => no_use(Access::Wait),
+            Plan::NoResponseRing => no_use(Access::Wait),
+            Plan::ToDeliver(next, size) => self.delivery_use(memory, next, size),
         }
     }
 
@@ -175,37 +167,6 @@ impl<S: BlockStore> Port<S> {
             ByteRange::EMPTY,
             ByteRange::EMPTY,
         ]
-    }
-
-    // Returns what a port uses that fetches nothing.
-    fn use_without_fetch(&self, memory: &[u8], place: usize) -> MemoryUse
-        requires memory { IsMemory memory.now }
-        ensures uses { result ≡ use_by self.now memory.now place (later_plan self.now memory.now) }
-        ensures body_within { LiesIn memory.now result.body }
-        ensures written_within { All (LiesIn memory.now) result.written }
-    {
-        if self.exec.pending() > 0 {
-            return command_use(memory, self.exec.buffer_use_at(place));
-        }
-        let Some(size) = self.next_size() else {
-            return no_use(Access::Nothing);
-        };
-        match self.responses.next(memory) {
-            NextDescriptor::OutsideMemory => no_use(Access::Wait),
-            NextDescriptor::OwnedByHost => no_use(Access::Wait),
-            NextDescriptor::OwnedByPort(next) => self.delivery_use(memory, next, size),
-        }
-    }
-
-    // Returns the number of bytes of the next message, or None if there is none.
-    fn next_size(&self) -> Option<u16>
-        ensures size { result ≡ next_size self.now }
-        ensures short { IfSome result (λ n. n ≤ 48) }
-    {
-        match self.notice() {
-            Some(notice) => Some(notice.message.size),
-            None => Some(self.end_text(self.waiting.front()?).size),
-        }
     }
 
     // Returns what the delivery of a message of `size` bytes uses.

@@ -52,8 +52,8 @@ impl<S: BlockStore> Port<S> {
         self.play_in(events, memory.as_mut_slice())
     }
 
-    /// Does the same over a slice: [`play`](Port::play) with borrowed memory.
-    pub fn play_in(&mut self, events: &[HostEvent], memory: &mut [u8]) -> u16
+    // Does the same over a slice.
+    fn play_in(&mut self, events: &[HostEvent], memory: &mut [u8]) -> u16
         requires memory { IsMemory memory.old }
         ensures effect { EventsEffect events.now self.old memory.old self.new memory.new }
         ensures sa { result ≡ sa_shown self.new }

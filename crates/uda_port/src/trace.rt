@@ -1,19 +1,12 @@
 //! Trace records: what a turn did, with the command or end message.
 //!
 //! UDA50 Programmer's Documentation Kit: command ring polling, message envelopes, fatal errors.
-ghost use Rattle.std.specs.Prelude.{◌≡◌, Some, length};
-ghost use Rattle.uda_mem.specs.Slices.{IsMemory};
-ghost use Rattle.uda_disk.specs.Units.{AreWellFormed};
-ghost use Rattle.uda_port.specs.Port.{CreditsAgree};
-ghost use Rattle.uda_port.specs.Turn.{TurnEffect};
-ghost use Rattle.uda_port.specs.Trace.{turn_of, Traces, trace_display};
+ghost use Rattle.std.specs.Prelude.{◌≡◌, Some};
+ghost use Rattle.uda_port.specs.Trace.{turn_of, trace_display};
 
 use crate::phase::Fatal;
-use crate::port::Port;
 use crate::turn::Turn;
 use std::fmt;
-use uda_image::BlockStore;
-use uda_mem::HostMemory;
 use uda_packet::{EndBody, GuestCommand, Reply, ReplyBody};
 
 /// What a turn did: a [`Turn`] with its command or end message.
@@ -113,50 +106,5 @@ impl fmt::Display for EndLine {
             ),
             _ => write!(f, "{reference} {name} unit {unit} status 0x{status:04x}"),
         }
-    }
-}
-
-impl<S: BlockStore> Port<S> {
-    /// Runs one turn as [`turn`](Port::turn) does, and returns its trace record.
-    #[tactic(auto, using(crate::proofs::Length::wholes))]
-    pub fn turn_traced(&mut self, memory: &mut HostMemory) -> Trace
-        ensures effect { TurnEffect self.old.phase self.old memory.old (turn_of result) self.new memory.new }
-        ensures accurate { Traces result self.old self.new }
-        ensures credits { CreditsAgree self.new }
-        ensures four_units { length self.new.exec.units ≡ 4 }
-        ensures well_formed { AreWellFormed self.new.exec.units }
-    {
-        self.turn_traced_in(memory.as_mut_slice())
-    }
-
-    /// Does the same over a slice, as [`turn_in`](Port::turn_in).
-    pub fn turn_traced_in(&mut self, memory: &mut [u8]) -> Trace
-        requires memory { IsMemory memory.old }
-        ensures effect { TurnEffect self.old.phase self.old memory.old (turn_of result) self.new memory.new }
-        ensures accurate { Traces result self.old self.new }
-        ensures credits { CreditsAgree self.new }
-        ensures four_units { length self.new.exec.units ≡ 4 }
-        ensures well_formed { AreWellFormed self.new.exec.units }
-    {
-        let mut trace = Trace::Idle;
-        self.take_turn(memory, None, &mut trace);
-        self.keep();
-        trace
-    }
-
-    /// Does the same, and stores the record in `trace`. Returns what the turn did. It is for callers that keep
-    /// the record of the last turn: nothing is copied.
-    pub fn turn_traced_into(&mut self, memory: &mut [u8], trace: &mut Trace) -> Turn
-        requires memory { IsMemory memory.old }
-        ensures effect { TurnEffect self.old.phase self.old memory.old result self.new memory.new }
-        ensures turn { result ≡ turn_of trace.new }
-        ensures accurate { Traces trace.new self.old self.new }
-        ensures credits { CreditsAgree self.new }
-        ensures four_units { length self.new.exec.units ≡ 4 }
-        ensures well_formed { AreWellFormed self.new.exec.units }
-    {
-        let turn = self.take_turn(memory, None, trace);
-        self.keep();
-        turn
     }
 }

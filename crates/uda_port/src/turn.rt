@@ -521,6 +521,17 @@ impl<S: BlockStore> Port<S> {
         }
     }
 
+    /// Returns the number of bytes of the text of an end message ([`end_text`](Port::end_text)).
+    pub(crate) fn end_size(&self, end: &Reply) -> u16
+        ensures size { result ≡ length (end_text self.now end.now) }
+        ensures within { result ≤ 48 }
+    {
+        match self.profile {
+            Profile::Strict => TEXT,
+            Profile::Compatible(_) => end.body.length(),
+        }
+    }
+
     // Returns what the end message reports about the controller and this drive.
     fn report(&self, identity: Identity, drive: u16) -> Report
         ensures report { result ≡ report_of identity self.now.guest self.now.exec.units drive }

@@ -10,7 +10,7 @@ use Rattle.uda_c.proofs.controller.Controller.take_turn_at.Goals as goal
 pub invariant_of-self : goal.invariant_of-self
 invariant_of-self c =
     let old = c.self.inside.port in
-    let taken = c.turn_traced_at-taken in (
+    let taken = c.turn_at-taken in (
       effect_faithful c.missing-missing.result _ (old, c.args.memory.now) taken.result.turn
           (taken.new.self, taken.new.memory) taken.ensures.effect c.self.invariant.0,
       effect_fits c.missing-missing.result _ (old, c.args.memory.now) taken.result.turn
@@ -21,7 +21,7 @@ pub returns : goal.returns
 returns c =
     let asked = c.args.turn.now in
     let memory = c.args.memory.now in
-    let taken = c.turn_traced_at-taken in
+    let taken = c.turn_at-taken in
     let asks = subst (λ (s : ControllerState). IsPlaceOf s asked c.place_of-place.result) (sym c.self.view_is)
     (record { is_place = c.place_of-place.ensures.place; asked_is = c.place_of-place.ensures.asked }) in
     subst

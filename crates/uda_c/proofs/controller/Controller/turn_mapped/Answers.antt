@@ -1,7 +1,7 @@
 use Rattle.std.proofs.Common.{inl, subst, sym}
 use Rattle.uda_c.specs.declared.call_status.CallStatus.TheVariants.{RanTurn}
 use Rattle.uda_c.specs.ControllerState.{ControllerState}
-use Rattle.uda_c.specs.Maps.{TakesTurnBehind}
+use Rattle.uda_c.specs.Maps.{TakesTurnThroughMap}
 use Rattle.uda_c.proofs.controller.Controller.turn_mapped.Goals as goal
 
 pub returns-in-Ok : goal.returns-in-Ok
@@ -11,10 +11,10 @@ returns-in-Ok c =
     let took = c.take_turn_mapped-turn in
     let answer = RanTurn took.result in
     let from_old = subst
-    (λ (s : ControllerState). TakesTurnBehind bus (s, memory) answer (took.new.self, took.new.memory))
+    (λ (s : ControllerState). TakesTurnThroughMap bus (s, memory) answer (took.new.self, took.new.memory))
     c.ready.ensures.same took.ensures.turn in
     let takes = subst
-    (λ (s : ControllerState). TakesTurnBehind bus (c.args.self.now, memory) answer (s, took.new.memory))
+    (λ (s : ControllerState). TakesTurnThroughMap bus (c.args.self.now, memory) answer (s, took.new.memory))
     (sym c.self.view_is) from_old in
     record {
       effect = record {

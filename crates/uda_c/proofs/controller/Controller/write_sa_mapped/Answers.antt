@@ -1,5 +1,5 @@
 use Rattle.std.proofs.Common.{List, ℕ, inl, ap, refl, subst, ◌∙◌}
-use Rattle.uda_bus.specs.Turns.{WritesSaBehind}
+use Rattle.uda_bus.specs.Turns.{WritesSaThroughMap}
 use Rattle.uda_port.specs.Port.{PortState}
 use Rattle.uda_c.specs.ControllerState.{ControllerState}
 use Rattle.uda_c.proofs.FaithfulUnits.{word_at_faithful}
@@ -21,10 +21,10 @@ returns-in-Ok c =
     let ok = c.in-Ok.ensures.ok in
     let is = c.self.view_is ∙ c.ready.ensures.same in
     let sized = subst
-    (λ (n : ℕ). WritesSaBehind bus.map n (c.self.inside.port, memory) c.args.word after)
+    (λ (n : ℕ). WritesSaThroughMap bus.map n (c.self.inside.port, memory) c.args.word after)
     ok.1 c.write_sa.ensures.effect in
     let steps = subst
-    (λ (s : ControllerState). WritesSaBehind bus.map bus.size (s.port, memory) c.args.word after) is sized in
+    (λ (s : ControllerState). WritesSaThroughMap bus.map bus.size (s.port, memory) c.args.word after) is sized in
     record {
       effect = record {
         does = λ done. inl (

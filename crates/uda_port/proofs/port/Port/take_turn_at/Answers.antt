@@ -1,81 +1,92 @@
-use Rattle.std.proofs.Common.{List, rules, sym, ap, ap₂, subst, ◌∙◌}
+use Rattle.std.proofs.Common.{◌≡◌, ℕ, List, rules, sym, ap, ap₂, subst, ◌∙◌}
 use Rattle.std.specs.Prelude.{All}
 use Rattle.uda_mem.specs.Ranges.{LiesIn}
 use Rattle.uda_mem.specs.declared.range.ByteRange.{ByteRange}
+use Rattle.uda_port.specs.declared.memory_use.Access.{Access}
 use Rattle.uda_port.specs.declared.memory_use.MemoryUse.{MemoryUse}
+use Rattle.uda_port.specs.declared.memory_use.Missing.{Missing}
+use Rattle.uda_port.specs.declared.plan.Plan.{Plan}
 use Rattle.uda_port.specs.declared.turn_at.Fate.{Fate}
+use Rattle.uda_port.specs.declared.turn_at.Fate.TheVariants.{WithoutBuffer}
+use Rattle.uda_port.specs.Plan.{plan_of}
+use Rattle.uda_port.specs.Port.{PortState}
 use Rattle.uda_port.specs.Turn.{may_fetch}
-use Rattle.uda_port.specs.MemoryUse.{CanFail, EffectBy, IsLocal, written_by_fate}
-use Rattle.uda_port.proofs.MemoryUseLaws.{fate_is, use_access, is_local, without_buffer, fate_fails, fate_lies, written_there}
+use Rattle.uda_port.specs.MemoryUse.{access_of, fate_in, fate_of, CanFail, EffectBy, IsLocal, use_by, use_of, written_by_fate}
+use Rattle.uda_port.proofs.MemoryUseLaws.{is_local, without_buffer, fate_fails, fate_lies, written_there}
 use Rattle.uda_port.proofs.TurnBlockChanges.{turn_changes}
 use Rattle.uda_port.proofs.port.Port.take_turn_at.Goals as goal
+
+-- the fate of a turn, and what it uses, by its plan
+planned_fate : (missing : Missing) (port : PortState) (memory : List ℕ) (plan : Plan) (access : Access) (fate : Fate)
+    → plan ≡ plan_of port memory → access ≡ access_of plan
+    → fate ≡ fate_in port.phase missing (may_fetch port) access → fate_of missing port memory ≡ fate
+planned_fate missing port memory plan access fate planned does is =
+    sym (is ∙ ap (fate_in port.phase missing (may_fetch port)) (does ∙ ap access_of planned))
+
+planned_use : (port : PortState) (memory : List ℕ) (j : ℕ) (plan : Plan) (uses : MemoryUse)
+    → plan ≡ plan_of port memory → uses ≡ use_by port memory j plan → uses ≡ use_of port memory j
+planned_use port memory j plan uses planned is = is ∙ ap (use_by port memory j) planned
 
 pub returns-clause-effect : goal.returns-clause-effect
 returns-clause-effect g c =
     let old = c.args.self.now in
-    let uses = c.memory_use-uses.ensures.uses in
-    let fate = fate_is c.args.missing old c.args.memory.now c.args.place c.memory_use-uses.result uses
-    ∙ sym c.fate-fate.ensures in
+    let memory = c.args.memory.now in
+    let fate = planned_fate c.args.bus.now.missing old memory c.plan-plan.result c.access-access.result c.fate-fate.result
+    c.plan-plan.ensures.plan c.access-access.ensures.access c.fate-fate.ensures in
     subst
-    (λ (f : Fate). EffectBy f c.args.place (old, c.args.memory.now) c.turn_by-turn.result
+    (λ (f : Fate). EffectBy f c.args.bus.now.place (old, memory) c.turn_by-turn.result
     (c.turn_by-turn.new.self, c.turn_by-turn.new.memory)) (sym fate) c.turn_by-turn.ensures.effect
 
 pub returns-clause-local : goal.returns-clause-local
 returns-clause-local g c =
     let old = c.args.self.now in
     let memory = c.args.memory.now in
-    let uses = c.memory_use-uses.ensures.uses in
-    let fate = fate_is c.args.missing old memory c.args.place c.memory_use-uses.result uses ∙ sym c.fate-fate.ensures in
-    let local = is_local c.args.missing c.args.place old memory c.turn_by-turn.result c.turn_by-turn.new.self
+    let place = c.args.bus.now.place in
+    let missing = c.args.bus.now.missing in
+    let uses = planned_use old memory place c.plan-plan.result c.use_by-uses.result c.plan-plan.ensures.plan
+    c.use_by-uses.ensures.uses in
+    let fate = planned_fate missing old memory c.plan-plan.result c.access-access.result c.fate-fate.result
+    c.plan-plan.ensures.plan c.access-access.ensures.access c.fate-fate.ensures in
+    let local = is_local missing place old memory c.turn_by-turn.result c.turn_by-turn.new.self
     c.turn_by-turn.new.memory c.fate-fate.result c.rings_are_valid.ensures.valid fate
     c.turn_by-turn.ensures.effect in
     let written = c.written_by_fate.ensures
     ∙ ap (λ (u : MemoryUse). written_by_fate c.fate-fate.result u.written) uses in
     subst
-    (λ (w : List ByteRange). IsLocal c.args.missing c.args.place (old, memory)
+    (λ (w : List ByteRange). IsLocal missing place (old, memory)
     (record { turn = c.turn_by-turn.result; written = w }) (c.turn_by-turn.new.self, c.turn_by-turn.new.memory))
     (sym written) local
 
 pub turn_by-turn-requires : goal.turn_by-turn-requires
 turn_by-turn-requires g c =
-    let access = use_access c.args.self.now c.args.memory.now c.args.place c.memory_use-uses.result
-    c.memory_use-uses.ensures.uses in (
-      search rules,
-      (
-        c.requires.memory,
-        (
-          access,
-          (
-            c.requires.place,
-            (
-              λ is. without_buffer c.args.self.now.phase c.args.missing (may_fetch c.args.self.now)
-                  c.memory_use-uses.result.access (sym c.fate-fate.ensures ∙ is),
-              subst (CanFail c.args.self.now.profile c.args.self.now.phase) (sym c.fate-fate.ensures)
-                  (fate_fails c.args.self.now.profile c.args.self.now.phase c.args.missing (may_fetch c.args.self.now)
-                  c.memory_use-uses.result.access),
-            ),
-          ),
-        ),
-      ),
-    )
+    let old = c.args.self.now in
+    let access = c.access-access.ensures.access ∙ ap access_of c.plan-plan.ensures.plan in
+    let without = λ (is : c.fate-fate.result ≡ WithoutBuffer). without_buffer old.phase c.args.bus.now.missing (may_fetch old) c.access-access.result
+    (sym c.fate-fate.ensures ∙ is) in
+    let fails = subst (CanFail old.profile old.phase) (sym c.fate-fate.ensures)
+    (fate_fails old.profile old.phase c.args.bus.now.missing (may_fetch old) c.access-access.result) in
+    (search rules, (c.requires.memory, (access, (c.requires.place, (without, fails)))))
 
 pub returns-clause-within : goal.returns-clause-within
 returns-clause-within g c =
     subst (All (LiesIn c.args.memory.now)) (sym c.written_by_fate.ensures)
-    (fate_lies c.args.memory.now c.fate-fate.result c.memory_use-uses.result.written
-    c.memory_use-uses.ensures.written_within)
+    (fate_lies c.args.memory.now c.fate-fate.result c.use_by-uses.result.written
+    c.use_by-uses.ensures.written_within)
 
 pub returns-clause-written : goal.returns-clause-written
 returns-clause-written g c =
     let old = c.args.self.now in
     let memory = c.args.memory.now in
-    let uses = c.memory_use-uses.ensures.uses in
-    let fate = fate_is c.args.missing old memory c.args.place c.memory_use-uses.result uses ∙ sym c.fate-fate.ensures in
+    let place = c.args.bus.now.place in
+    let uses = planned_use old memory place c.plan-plan.result c.use_by-uses.result c.plan-plan.ensures.plan
+    c.use_by-uses.ensures.uses in
+    let fate = planned_fate c.args.bus.now.missing old memory c.plan-plan.result c.access-access.result
+    c.fate-fate.result c.plan-plan.ensures.plan c.access-access.ensures.access c.fate-fate.ensures in
     λ other agrees. c.written_by_fate.ensures
     ∙ ap₂ written_by_fate (sym fate) (ap (λ (u : MemoryUse). u.written) uses)
-    ∙ written_there c.args.missing c.args.place old memory other agrees
+    ∙ written_there c.args.bus.now.missing place old memory other agrees
 
 pub returns-clause-used_blocks : goal.returns-clause-used_blocks
 returns-clause-used_blocks g c =
-    turn_changes c.args.missing c.args.place c.args.self.now c.args.memory.now c.turn_by-turn.result
+    turn_changes c.args.bus.now.missing c.args.bus.now.place c.args.self.now c.args.memory.now c.turn_by-turn.result
     c.turn_by-turn.new.self c.turn_by-turn.new.memory c.rings_are_valid.ensures.valid (returns-clause-effect g c)

@@ -18,11 +18,11 @@ pub returns-in-Usual-clause-effect : goal.returns-in-Usual-clause-effect
 returns-in-Usual-clause-effect g c =
     let before : PortState × List ℕ = (c.args.self.now, c.args.memory.now) in
     let after : PortState × List ℕ = (c.take_turn.new.self, c.take_turn.new.memory) in
-    let taken : TurnsAt c.args.plan.place before c.take_turn.result after = record {
+    let taken : TurnsAt c.args.course.place before c.take_turn.result after = record {
       goes = c.take_turn.ensures.effect;
-      executes = c.take_turn.ensures.chosen c.args.plan.place refl;
+      executes = c.take_turn.ensures.chosen c.args.course.place refl;
     } in
-    subst (λ (f : Fate). EffectBy f c.args.plan.place before c.take_turn.result after) (sym c.in-Usual.is) taken
+    subst (λ (f : Fate). EffectBy f c.args.course.place before c.take_turn.result after) (sym c.in-Usual.is) taken
 
 pub returns-in-FailsLater-clause-reports : goal.returns-in-FailsLater-clause-reports
 returns-in-FailsLater-clause-reports g c =

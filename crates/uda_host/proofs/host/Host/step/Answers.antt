@@ -1,7 +1,7 @@
 use Rattle.std.proofs.Common.{None, rules}
 use Rattle.uda_host.proofs.Hosts.{consistent}
 use Rattle.uda_host.proofs.Turns.{host_works, end_read, host_takes}
-use Rattle.uda_host.proofs.host.Host.step_into.Goals as goal
+use Rattle.uda_host.proofs.host.Host.step.Goals as goal
 
 -- a turn without an end message
 pub invariant_of-self : goal.invariant_of-self

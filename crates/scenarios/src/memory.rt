@@ -143,13 +143,13 @@ impl Memory {
     /// Runs a turn of a port.
     pub fn turn(&mut self, port: &mut Port<RecordingImage>) -> Result<Trace, CaseFault> {
         match self {
-            Memory::Host(memory) => Ok(turn_of(port, memory.as_mut_slice())),
+            Memory::Host(memory) => Ok(traced_turn(port, memory.as_mut_slice())),
             Memory::Slice(slice) => {
                 let bytes = slice.next()?;
                 if !is_memory(bytes) {
                     return Err(CaseFault::Memory);
                 }
-                Ok(turn_of(port, bytes))
+                Ok(traced_turn(port, bytes))
             }
         }
     }
@@ -211,13 +211,13 @@ impl Memory {
 }
 
 // Runs a turn of a port over these bytes, and returns its trace record.
-fn turn_of(port: &mut Port<RecordingImage>, bytes: &mut [u8]) -> Trace {
+fn traced_turn(port: &mut Port<RecordingImage>, bytes: &mut [u8]) -> Trace {
     let mut trace = Trace::Idle;
     port.turn_at(bytes, None, &mut trace);
     trace
 }
 
-// Applies one event to a port over these bytes, as `Port::play` does over a host's memory.
+// Applies one event to a port over these bytes. It repeats the rules of `Port::play`, which takes only a host's memory.
 fn play_one(port: &mut Port<RecordingImage>, event: HostEvent, bytes: &mut [u8]) {
     match event {
         HostEvent::WriteIp => port.write_ip(0),

@@ -33,7 +33,7 @@ written_of_length false port memory other word long =
     zeroed_of_length port.phase port memory other word long
 
 module _ (port : PortState) (map : BusMap) (memory window : List ℕ) (word : ℕ) where
-  pub word_behind : (missing : Bool) (area written : ByteRange) (new : List ℕ) (after : PortState × List ℕ)
+  pub word_through_map : (missing : Bool) (area written : ByteRange) (new : List ℕ) (after : PortState × List ℕ)
       → area ≡ range_zeroed port.phase port window word
       → TellsMissing map memory area missing
       → written ≡ range_written missing (port, window) word
@@ -41,7 +41,7 @@ module _ (port : PortState) (map : BusMap) (memory window : List ℕ) (word : �
       → length new ≡ length window
       → after.1 ≡ stored map memory written.at (part new written.at written.bytes)
       → WritesSaThroughMap map (length window) (port, memory) word after
-  word_behind missing area written new after is_area tells is_written local long stores =
+  word_through_map missing area written new after is_area tells is_written local long stores =
       let bus = bus_memory map (length window) memory in
       let size : length bus ≡ length window = length-shown map memory 0 (length window) in
       let ranges : List ByteRange = written ∷ [] in

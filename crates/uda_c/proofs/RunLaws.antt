@@ -5,7 +5,7 @@ use Rattle.uda_c.specs.declared.call_status.CallStatus.{CallStatus}
 use Rattle.uda_c.specs.declared.call_status.CallStatus.TheVariants.{RanTurn}
 use Rattle.uda_c.specs.Controllers.{TakesTurn}
 use Rattle.uda_c.specs.declared.map.MappedBus.{MappedBus}
-use Rattle.uda_c.specs.Maps.{TakesTurnThroughMap, TakesTurnsBehind}
+use Rattle.uda_c.specs.Maps.{TakesTurnThroughMap, TakesTurnsThroughMap}
 use Rattle.uda_c.specs.Runs.{Machine, TakesTurns, does_nothing}
 
 -- a turn, and then the rest of the run
@@ -28,15 +28,15 @@ run_over limit k before old turn next h over takes =
 -- the same of turns over memory through map registers
 module _ (bus : MappedBus) (limit k : ℕ) (before : CallStatus) (old : Machine) (turn : Turn) (next : Machine)
     (below : k < limit) (takes : TakesTurnThroughMap bus old (RanTurn turn) next) where
-  pub run_on_behind : (after : CallStatus × Machine) → does_nothing turn ≡ false
-      → TakesTurnsBehind bus (limit - (k + 1)) (RanTurn turn) next after
-      → TakesTurnsBehind bus (limit - k) before old after
-  run_on_behind after goes rest =
+  pub run_on_through : (after : CallStatus × Machine) → does_nothing turn ≡ false
+      → TakesTurnsThroughMap bus (limit - (k + 1)) (RanTurn turn) next after
+      → TakesTurnsThroughMap bus (limit - k) before old after
+  run_on_through after goes rest =
       let left : limit - k ≡ suc (limit - (k + 1)) = omega (arith, below) in
       rw left (turn, next, takes, rw goes rest)
 
-  pub run_over_behind : does_nothing turn ≡ true
-      → TakesTurnsBehind bus (limit - k) before old (RanTurn turn, next)
-  run_over_behind over =
+  pub run_over_through : does_nothing turn ≡ true
+      → TakesTurnsThroughMap bus (limit - k) before old (RanTurn turn, next)
+  run_over_through over =
       let left : limit - k ≡ suc (limit - (k + 1)) = omega (arith, below) in
       rw left (turn, next, takes, rw over (refl, refl))

@@ -53,12 +53,12 @@ pub record TakesTurnThroughMap (bus : MappedBus) (before : Machine) (answer : Ca
   pub goes : TurnsThroughMap bus.map bus.size (before.0.port, before.1) (turn_of trace) (after.0.port, after.1)
 
 -- at most `limit` turns, as in memory that is one array
-abbrev pub TakesTurnsBehind : MappedBus → ℕ → CallStatus → Machine → CallStatus × Machine → Type 0
-TakesTurnsBehind bus zero before old after = (after.0 ≡ before) × (after.1 ≡ old)
-TakesTurnsBehind bus (suc limit) before old after =
+abbrev pub TakesTurnsThroughMap : MappedBus → ℕ → CallStatus → Machine → CallStatus × Machine → Type 0
+TakesTurnsThroughMap bus zero before old after = (after.0 ≡ before) × (after.1 ≡ old)
+TakesTurnsThroughMap bus (suc limit) before old after =
     (turn : Turn) × (next : Machine) × TakesTurnThroughMap bus old (RanTurn turn) next
     × AfterTurn (does_nothing turn) ((after.0 ≡ RanTurn turn) × (after.1 ≡ next))
-    (TakesTurnsBehind bus limit (RanTurn turn) next after)
+    (TakesTurnsThroughMap bus limit (RanTurn turn) next after)
 
 -- a call over a map: it does nothing if the map is invalid, or if memory for the window can't be allocated
 pub record OverMap (m : MapRegisters) (before : Machine) (answer : CallStatus) (after : Machine)

@@ -18,7 +18,7 @@ ghost use Rattle.uda_exec.specs.Drives.{drive_state};
 ghost use Rattle.uda_port.specs.MemoryUse.{IsPlace};
 ghost use Rattle.uda_c.specs.TurnUse.{GetsDescriptors, GetsBody, TurnsAtWhereMemory, TakesTurnAt, WritesSaAt};
 ghost use Rattle.uda_c.specs.Runs.{TakesTurns, RunsWhereMemory, does_nothing};
-ghost use Rattle.uda_c.specs.Maps.{IsBusOf, map_answer, OverMap, TakesTurnThroughMap, TakesTurnsBehind, WritesSaOver};
+ghost use Rattle.uda_c.specs.Maps.{IsBusOf, map_answer, OverMap, TakesTurnThroughMap, TakesTurnsThroughMap, WritesSaOver};
 
 use crate::call_status::CallStatus;
 use crate::fits::{fits_controller, numbers_fit};
@@ -461,12 +461,12 @@ impl Controller {
         map: &MapRegisters<'_>,
     ) -> CallStatus
         ensures runs { OverMap map.now (self.old, memory.old) result (self.new, memory.new)
-            (λ bus. TakesTurnsBehind bus limit Done (self.old, memory.old) (result, (self.new, memory.new))) }
+            (λ bus. TakesTurnsThroughMap bus limit Done (self.old, memory.old) (result, (self.new, memory.new))) }
     {
         match self.ready(map) {
             Ok(ReadyBus { bus, window }) => {
                 let mut window = window;
-                let answer = self.run_behind(limit, memory, &bus, &mut window);
+                let answer = self.run_through(limit, memory, &bus, &mut window);
                 self.window = Some(window);
                 answer
             }
@@ -518,7 +518,7 @@ impl Controller {
     }
 
     // Runs up to `limit` turns over a bus.
-    fn run_behind(
+    fn run_through(
         &mut self,
         limit: u32,
         memory: &mut [u8],
@@ -526,7 +526,7 @@ impl Controller {
         window: &mut Window,
     ) -> CallStatus
         requires window { length window.old ≡ bus.now.size }
-        ensures runs { TakesTurnsBehind bus.now limit Done (self.old, memory.old)
+        ensures runs { TakesTurnsThroughMap bus.now limit Done (self.old, memory.old)
             (result, (self.new, memory.new)) }
     {
         let mut answer = CallStatus::Done;

@@ -15,7 +15,7 @@ ghost use Rattle.uda_port.specs.StartupUse.{range_zeroed};
 ghost use Rattle.uda_c.specs.TurnUse.{GetsDescriptors, GetsBody, TurnsAtWhereMemory, WritesSaAt};
 ghost use Rattle.uda_c.specs.Saving.{Saves, Restores};
 ghost use Rattle.uda_c.specs.BlockRange.{AttachesCalled, GetsBlocks, GetsWritten, LendsBlocks, AllowsBlocks, prepared_numbered};
-ghost use Rattle.uda_c.specs.Maps.{OverMap, ReadsMapped, WritesMapped, TakesTurnThroughMap, TakesTurnsBehind, WritesSaOver};
+ghost use Rattle.uda_c.specs.Maps.{OverMap, ReadsMapped, WritesMapped, TakesTurnThroughMap, TakesTurnsThroughMap, WritesSaOver};
 ghost use Rattle.uda_c.specs.Runs.{RunsWhereMemory};
 ghost use Rattle.uda_c.specs.Snapshot.{port_snapshot};
 ghost use Rattle.uda_c.specs.Last.{turn_record, TellsLine};
@@ -503,7 +503,7 @@ pub extern "C" fn uda50_run_mapped(
         ((result ≡ status_code NoController) × (memory.new ≡ memory.old))
         (λ old new. (answer : CallStatus) × (result ≡ status_code answer)
         × OverMap map.now (old, memory.old) answer (new, memory.new)
-        (λ bus. TakesTurnsBehind bus turns Done (old, memory.old) (answer, (new, memory.new)))) }
+        (λ bus. TakesTurnsThroughMap bus turns Done (old, memory.old) (answer, (new, memory.new)))) }
     ensures valid { AreValid handle.old.value handle.new.value }
 {
     match handle.get() {

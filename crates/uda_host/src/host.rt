@@ -107,9 +107,9 @@ impl<S: BlockStore> Host<S> {
         self.posted.push(*command);
     }
 
-    /// Runs one turn of the port, and stores what the port did in `trace`. If the port delivers an end message, the
-    /// host reads it at the next index of the response ring, returns the descriptor, adds the credits, and returns
-    /// the end message.
+    /// Runs one turn of the port, stores its record in `trace`, and returns the end message that the port delivers,
+    /// or None. The host reads the message at the next index of the response ring, gives the descriptor back to the
+    /// port, and adds the credits.
     ///
     /// UDA50 Programmer's Documentation Kit: response ring, credits.
     pub fn step(&mut self, trace: &mut Trace) -> Option<End>

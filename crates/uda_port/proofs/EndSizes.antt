@@ -8,7 +8,7 @@ use Rattle.uda_packet.specs.declared.guest_end.Report.{Report}
 use Rattle.uda_packet.specs.declared.guest_end.UnitReport.{UnitReport}
 use Rattle.uda_packet.specs.declared.reply.Reply.{Reply}
 use Rattle.uda_packet.specs.declared.reply.ReplyBody.{ReplyBody}
-use Rattle.uda_packet.specs.declared.reply.ReplyBody.TheVariants.{Basic, Abort, CommandStatus, AccessPaths, CompareController, Flush, SetUnit, Compare}
+use Rattle.uda_packet.specs.declared.reply.ReplyBody.TheVariants.{Basic, SetUnit}
 use Rattle.uda_packet.specs.Field.{Entry, ◌holds◌, text_of, reference_field, unit_field, code_field, status_field}
 use Rattle.uda_packet.specs.GuestEnd.{written_guest_end, guest_entries, basic_entries, guest_reply_entries, controller_entries, status_entries, online_entries, unit_number}
 use Rattle.uda_packet.specs.Reply.{reply_code, reply_length}

@@ -35,8 +35,6 @@ use Rattle.uda_port.specs.declared.profile.Profile.{Profile}
 use Rattle.uda_port.specs.declared.profile.Profile.TheVariants.{Strict, Compatible}
 use Rattle.uda_port.specs.declared.turn.Turn.{Turn}
 use Rattle.uda_port.specs.declared.turn.Turn.TheVariants as did
-use Rattle.uda_port.specs.declared.memory_use.Access.{Access}
-use Rattle.uda_port.specs.declared.memory_use.Access.TheVariants.{Nothing, Fetch, Execute, Wait, Deliver}
 use Rattle.uda_port.specs.declared.memory_use.MemoryUse.{MemoryUse}
 use Rattle.uda_port.specs.declared.memory_use.Missing.{Missing}
 use Rattle.uda_port.specs.declared.turn_at.Fate.{Fate}
@@ -56,7 +54,7 @@ use Rattle.uda_port.specs.declared.plan.Plan.TheVariants.{AtRest, NoCommandRing,
 use Rattle.uda_port.specs.Plan.{plan_by, plan_of}
 use Rattle.uda_port.specs.Plan.{Step, TurnIs, TurnCase, Rests, CommandRingLost, Unreadable, Exceeds, BadConnection, Fetches, Executes, DeliversEnd, Notifies, Waits, ResponseRingLost, NoRoom}
 use Rattle.uda_port.specs.Turn.{Unchanged, ExecutesFor, TurnEffect, TakesPacket, NothingToFetch, NothingToDeliver, ExecutesOne, may_fetch, fetching_of, port_turn_on, port_not_polling, port_with_message}
-use Rattle.uda_port.specs.MemoryUse.{descriptor_ranges, packet_range, indicator_range, returned_range, NONE_WRITTEN, access_of, has_text, has_room, written_by_fetch, fetch_use, looked_up, command_use, written_by_delivery, delivery_use, use_by, use_of, fate_at, fate_in, fate_of, CanFail, EffectBy, EffectWithout, written_by_fate, written_of, Agrees, AgreesInDescriptors, IsLocal, HasValidRings}
+use Rattle.uda_port.specs.MemoryUse.{descriptor_ranges, packet_range, indicator_range, returned_range, NONE_WRITTEN, has_text, has_room, written_by_fetch, fetch_use, looked_up, command_use, written_by_delivery, delivery_use, use_by, use_of, fate_at, fate_in, fate_of, CanFail, EffectBy, EffectWithout, written_by_fate, written_of, Agrees, AgreesInDescriptors, IsLocal, HasValidRings}
 use Rattle.uda_port.proofs.PlanLaws.{plan_rests, plan_outside, plan_fetches, plan_executes, plan_lost, plan_delivers, IsQuiet, NoneWaits, Waiting, plan_quiet, some_executed, case_of, executed_case, case_at, turns_at}
 use Rattle.uda_port.proofs.PortSteps.{reads_no_ring, reads_no_packet, writes_no_packet}
 use Rattle.uda_port.proofs.RingLaws.{takes_first}
@@ -766,11 +764,7 @@ plan_there port memory other s = ap₂ (plan_by port) s.command s.response
 fate_there : (missing : Missing) (port : PortState) (memory other : List ℕ)
     → SameDescriptors port memory other → fate_of missing port other ≡ fate_of missing port memory
 fate_there missing port memory other s =
-    ap (λ (p : Plan). fate_in port.phase missing (may_fetch port) (access_of p)) (plan_there port memory other s)
-
-pub to_execute : (p : Plan) → access_of p ≡ Execute → p ≡ ToExecute
-to_execute ToExecute is = refl
-to_execute _ is = absurd (cc)
+    ap (fate_in port.phase missing (may_fetch port)) (plan_there port memory other s)
 
 module _ (port : PortState) (memory other : List ℕ) (j : ℕ) (s : SameDescriptors port memory other) where
   range_there : (at n : ℕ) → range_in other at n ≡ range_in memory at n
@@ -937,7 +931,7 @@ delivery_lies port memory text indicator short room below within size told retur
 pub delivery_none : (port : PortState) (memory : List ℕ) (text body : ByteRange)
     → body ≡ packet_range memory text.at text.bytes
     → (HasRoom port.profile memory text.at text.bytes → ⊥)
-    → record { access = Deliver; body = body; written = NONE_WRITTEN } ≡ delivery_use port memory text
+    → record { body = body; written = NONE_WRITTEN } ≡ delivery_use port memory text
 delivery_none port memory text body is never =
     rw (is, not_room port.profile memory text.at text.bytes never) refl
 
@@ -946,7 +940,6 @@ pub delivery_is : (port : PortState) (memory : List ℕ) (text body : ByteRange)
     → told ≡ indicator_range (response_indicator port memory) → returned ≡ returned_range port.responses
     → HasRoom port.profile memory text.at text.bytes
     → record {
-      access = Deliver;
       body = body;
       written = range_at text.at size ∷ range_at (text.at - 4) 4 ∷ told ∷ returned ∷ [];
     } ≡ delivery_use port memory text
@@ -957,11 +950,11 @@ pub fetch_is : (port : PortState) (memory : List ℕ) (d : Descriptor) (at : ℕ
     (readable : Bool) (written : List ByteRange) → at ≡ text_address port.profile d
     → body ≡ packet_range memory at 48 → written ≡ written_by_fetch port memory readable
     → (readable ≡ true → HasText memory at 48) → (HasText memory at 48 → readable ≡ true)
-    → record { access = Fetch; body = body; written = written }
+    → record { body = body; written = written }
     ≡ fetch_use port memory (text_address port.profile d)
 fetch_is port memory d at body readable written is_at is_body is_written has is =
     let make : ByteRange → List ByteRange → MemoryUse =
-    λ b w. record { access = Fetch; body = b; written = w } in
+    λ b w. record { body = b; written = w } in
     let text = text_iff memory at 48 readable has is in
     ap₂ make is_body (is_written ∙ ap (written_by_fetch port memory) text) ∙ ap (fetch_use port memory) is_at
 
@@ -977,23 +970,24 @@ if_false true x y h k = h
 if_false false x y h k = k
 
 -- a turn without its buffer executes a command
-without_at : (missing : Missing) (access : Access) → is_without (fate_at missing access) ≡ true → access ≡ Execute
-without_at missing Execute is = refl
-without_at missing Nothing is = absurd (cc)
-without_at missing Fetch is = absurd (let no = sym is ∙ if_false missing.body _ _ refl refl in cc)
-without_at missing Wait is = absurd (let no = sym is ∙ if_false missing.responses _ _ refl refl in cc)
-without_at missing Deliver is =
+without_at : (missing : Missing) (plan : Plan) → is_without (fate_at missing plan) ≡ true → plan ≡ ToExecute
+without_at missing ToExecute is = refl
+without_at missing (ToFetch d) is = absurd (let no = sym is ∙ if_false missing.body _ _ refl refl in cc)
+without_at missing ToWait is = absurd (let no = sym is ∙ if_false missing.responses _ _ refl refl in cc)
+without_at missing NoResponseRing is = absurd (let no = sym is ∙ if_false missing.responses _ _ refl refl in cc)
+without_at missing (ToDeliver d n) is =
     absurd (let no = sym is ∙ if_false missing.responses _ _ refl (if_false missing.body _ _ refl refl) in cc)
+without_at missing _ is = absurd (cc)
 
-pub without_buffer : (phase : Phase) (missing : Missing) (polls : Bool) (access : Access)
-    → fate_in phase missing polls access ≡ WithoutBuffer → access ≡ Execute
-without_buffer Running missing polls access is = by (polls && missing.commands) (ap is_without is)
+pub without_buffer : (phase : Phase) (missing : Missing) (looks : Bool) (plan : Plan)
+    → fate_in phase missing looks plan ≡ WithoutBuffer → plan ≡ ToExecute
+without_buffer Running missing looks plan is = by (looks && missing.commands) (ap is_without is)
   where
-    by : (b : Bool) → is_without (if b then FailsInFetch fatal.RingRead else fate_at missing access) ≡ true
-        → access ≡ Execute
+    by : (b : Bool) → is_without (if b then FailsInFetch fatal.RingRead else fate_at missing plan) ≡ true
+        → plan ≡ ToExecute
     by true is = absurd (cc)
-    by false is = without_at missing access is
-without_buffer _ missing polls access is = absurd (cc)
+    by false is = without_at missing plan is
+without_buffer _ missing looks plan is = absurd (cc)
 
 pub fate_lies : (memory : List ℕ) (fate : Fate) (written : List ByteRange) → All (LiesIn memory) written
     → All (LiesIn memory) (written_by_fate fate written)
@@ -1006,17 +1000,18 @@ if_can profile true x y h k = h
 if_can profile false x y h k = k
 
 -- a port that can have the fate of its turn
-pub fate_fails : (profile : Profile) (phase : Phase) (missing : Missing) (polls : Bool) (access : Access)
-    → CanFail profile phase (fate_in phase missing polls access)
-fate_fails profile Running missing polls access =
-    if_can profile (polls && missing.commands) _ (fate_at missing access) (reads_no_ring profile Running refl) (by access)
+pub fate_fails : (profile : Profile) (phase : Phase) (missing : Missing) (looks : Bool) (plan : Plan)
+    → CanFail profile phase (fate_in phase missing looks plan)
+fate_fails profile Running missing looks plan =
+    if_can profile (looks && missing.commands) _ (fate_at missing plan) (reads_no_ring profile Running refl) (by plan)
   where
-    by : (a : Access) → CanFail profile Running (fate_at missing a)
-    by Nothing = tt
-    by Fetch = if_can profile missing.body _ _ (reads_no_packet profile Running refl) tt
-    by Execute = if_can profile missing.body _ _ tt tt
-    by Wait = if_can profile missing.responses _ _ (reads_no_ring profile Running refl) tt
-    by Deliver =
+    by : (p : Plan) → CanFail profile Running (fate_at missing p)
+    by (ToFetch d) = if_can profile missing.body _ _ (reads_no_packet profile Running refl) tt
+    by ToExecute = if_can profile missing.body _ _ tt tt
+    by ToWait = if_can profile missing.responses _ _ (reads_no_ring profile Running refl) tt
+    by NoResponseRing = if_can profile missing.responses _ _ (reads_no_ring profile Running refl) tt
+    by (ToDeliver d n) =
         if_can profile missing.responses _ _ (reads_no_ring profile Running refl)
         (if_can profile missing.body _ _ (writes_no_packet profile Running refl) tt)
-fate_fails profile _ missing polls access = tt
+    by _ = tt
+fate_fails profile _ missing looks plan = tt

@@ -1,14 +1,12 @@
 -- A turn is one of the cases of its plan.
-use Rattle.std.proofs.Common.{◌≡◌, ℕ, ◌+◌, ◌<◌, ◌≤◌, Bool, true, false, List, [], ◌∷◌, length, Option, Some, None, Result, Ok, Err, refl, sym, ap, ap₂, subst, ◌∙◌, arith}
-use Rattle.std.specs.Prelude.{nat_le, option_map, slice_get, if◌then◌else◌}
-use Rattle.std.proofs.lemmas.Bool.{leb-true}
+use Rattle.std.proofs.Common.{◌≡◌, ℕ, ◌<◌, Bool, true, false, List, [], ◌∷◌, length, Option, Some, None, Result, Ok, Err, refl, sym, ap, ap₂, subst, ◌∙◌, arith}
+use Rattle.std.specs.Prelude.{option_map, slice_get, if◌then◌else◌}
 use Rattle.std.proofs.lemmas.Option.{slice_get_within}
 use Rattle.uda_packet.specs.declared.command.Command.{Command}
 use Rattle.uda_packet.specs.declared.guest_command.GuestCommand.{GuestCommand}
 use Rattle.uda_packet.specs.declared.reply.Reply.{Reply}
 use Rattle.uda_packet.specs.declared.reply.ReplyBody.{ReplyBody}
 use Rattle.uda_packet.specs.declared.reply.ReplyBody.TheVariants as body
-use Rattle.uda_mem.specs.Words.{word_at}
 use Rattle.uda_disk.specs.Units.{Units}
 use Rattle.uda_exec.specs.Disks.{ExecState}
 use Rattle.uda_port.specs.AtOnce.{exec_for, exec_at_once}
@@ -31,7 +29,7 @@ use Rattle.uda_port.specs.declared.profile.Profile.TheVariants.{Strict, Compatib
 use Rattle.uda_port.specs.Port.{PortState}
 use Rattle.uda_port.specs.Report.{end_text, next_text}
 use Rattle.uda_port.specs.Fetch.{IsNext}
-use Rattle.uda_port.specs.Ring.{descriptor_at, is_owned, next_descriptor}
+use Rattle.uda_port.specs.Ring.{is_owned, next_descriptor}
 use Rattle.uda_port.specs.Startup.{failed_port}
 use Rattle.uda_port.specs.Turn.{Unchanged, TurnEffect, RunningTurn, FetchRule, DeliverRule, NothingToFetch, NothingToDeliver, ExecutesOne, ExecutesFor, Fails, InFetch, InRest, may_fetch, port_with_message}
 use Rattle.uda_port.proofs.TurnLaws.{attention_first, first_text}
@@ -394,9 +392,9 @@ turns_at place before turn after c = record {
         subst (λ (k : ℕ). ExecutesOne k (stopped_polling (step_of before after)) before.1 after.0 after.1) at x
     by (Other none never units) executed = absurd (let no = sym never ∙ ap is_executed executed in cc)
 
--- ---- what a plan follows from
+-- ---- what follows from a plan
 
--- a command is executed
+-- the port runs, and a command is pending
 pub record IsExecution (port : PortState) : Type 0 where
   pub runs : port.phase ≡ Running
   pub pending : 0 < length port.exec.pending
@@ -453,16 +451,3 @@ module _ (port : PortState) (memory : List ℕ) where
 
   pub execution : plan_of port memory ≡ ToExecute → IsExecution port
   execution is = subst Here is follows
-
--- a descriptor that was read is in memory
-pub read_within : (memory : List ℕ) (at : ℕ) (d : Descriptor) → descriptor_at memory at ≡ Some d
-    → at + 4 ≤ length memory
-read_within memory at d is = by (nat_le (at + 4) (length memory)) refl is
-  where
-    read : Descriptor
-    read = record { low = word_at memory at; high = word_at memory (at + 2) }
-
-    by : (b : Bool) → nat_le (at + 4) (length memory) ≡ b → (if b then Some read else None) ≡ Some d
-        → at + 4 ≤ length memory
-    by true within is = leb-true _ _ within
-    by false within is = absurd (cc)

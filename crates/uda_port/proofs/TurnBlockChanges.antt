@@ -2,14 +2,12 @@
 use Rattle.std.proofs.Common.{◌≡◌, ℕ, false, List, [], Option, Some, None, refl, sym, ap, subst}
 use Rattle.uda_exec.specs.BlockChanges.{ChangesOnly}
 use Rattle.uda_exec.proofs.BlockChangesLaw.{only_used_blocks_change, leaves_all}
-use Rattle.uda_port.specs.declared.memory_use.Access.{Access}
-use Rattle.uda_port.specs.declared.memory_use.Access.TheVariants.{Execute}
 use Rattle.uda_port.specs.declared.memory_use.Missing.{Missing}
 use Rattle.uda_port.specs.declared.turn.Turn.{Turn}
 use Rattle.uda_port.specs.declared.turn_at.Fate.{Fate}
 use Rattle.uda_port.specs.declared.turn_at.Fate.TheVariants.{Usual, FailsInFetch, FailsLater, WithoutBuffer}
 use Rattle.uda_port.specs.BlockUse.{memory_by, memory_executed, blocks_in, written_in, blocks_of, block_bytes_of}
-use Rattle.uda_port.specs.MemoryUse.{access_of, fate_of, EffectBy, EffectWithout, HasValidRings}
+use Rattle.uda_port.specs.MemoryUse.{fate_of, EffectBy, EffectWithout, HasValidRings}
 use Rattle.uda_port.specs.declared.plan.Plan.{Plan}
 use Rattle.uda_port.specs.declared.plan.Plan.TheVariants.{ToExecute}
 use Rattle.uda_port.specs.Plan.{is_execution, plan_of}
@@ -19,13 +17,13 @@ use Rattle.uda_port.proofs.MemoryUseLaws.{as_guest, without_buffer}
 use Rattle.uda_port.proofs.PlanLaws.{Outcome, Executing, Other, outcome, units_of, case_at}
 
 none_executed : (plan : Plan) (fate : Fate) (memory : List ℕ) → is_execution plan ≡ false
-    → memory_executed (access_of plan) fate memory ≡ None
+    → memory_executed plan fate memory ≡ None
 none_executed ToExecute fate memory is = absurd (cc)
 none_executed _ fate memory is = refl
 
-none_failed : (access : Access) (fate : Fate) (memory : List ℕ) → memory_by fate memory ≡ None
-    → memory_executed access fate memory ≡ None
-none_failed Execute fate memory is = is
+none_failed : (plan : Plan) (fate : Fate) (memory : List ℕ) → memory_by fate memory ≡ None
+    → memory_executed plan fate memory ≡ None
+none_failed ToExecute fate memory is = is
 none_failed _ fate memory is = refl
 
 module _ (old : PortState) (memory : List ℕ) (j : ℕ) (new : PortState) (memory_after : List ℕ)
@@ -34,8 +32,8 @@ module _ (old : PortState) (memory : List ℕ) (j : ℕ) (new : PortState) (memo
   abbrev Changes : Option (List ℕ) → Type 0
   Changes found = ChangesOnly (blocks_in old.exec j found) (written_in old.exec j found) (units_of old) (units_of new)
 
-  abbrev access : Access
-  access = access_of (plan_of old memory)
+  abbrev plan : Plan
+  plan = plan_of old memory
 
   executed : (given after : List ℕ) → ExecutesOne j (port_not_polling (port_turn_on old)) given new after
       → Changes (Some given)
@@ -46,23 +44,23 @@ module _ (old : PortState) (memory : List ℕ) (j : ℕ) (new : PortState) (memo
   unchanged found none same = subst Changes (sym none) (leaves_all [] (units_of old) (units_of new) same)
 
   by_fate : (missing : Missing) (f : Fate) (turn : Turn) → fate_of missing old memory ≡ f
-      → EffectBy f j (old, memory) turn (new, memory_after) → Changes (memory_executed access f memory)
+      → EffectBy f j (old, memory) turn (new, memory_after) → Changes (memory_executed plan f memory)
   by_fate missing Usual turn is it = by (outcome _ turn _ (case_at j (old, memory) turn (new, memory_after) it))
     where
       by : Outcome (λ k. k ≡ j) turn (record { old = old; memory = memory; new = new; memory_after = memory_after })
-          → Changes (memory_executed access Usual memory)
-      by (Executing plan executes k at x) =
-          subst (λ (p : Plan). Changes (memory_executed (access_of p) Usual memory)) (sym plan)
+          → Changes (memory_executed plan Usual memory)
+      by (Executing planned executes k at x) =
+          subst (λ (p : Plan). Changes (memory_executed p Usual memory)) (sym planned)
           (executed memory memory_after
           (subst (λ (i : ℕ). ExecutesOne i (port_not_polling (port_turn_on old)) memory new memory_after) at x))
-      by (Other none never same) = unchanged _ (none_executed (plan_of old memory) Usual memory none) same
+      by (Other none never same) = unchanged _ (none_executed plan Usual memory none) same
   by_fate missing (FailsInFetch cause) turn is it =
-      unchanged _ (none_failed access (FailsInFetch cause) memory refl) (ap units_of it.0.died)
+      unchanged _ (none_failed plan (FailsInFetch cause) memory refl) (ap units_of it.0.died)
   by_fate missing (FailsLater cause) turn is it =
-      unchanged _ (none_failed access (FailsLater cause) memory refl) (ap units_of it.0.died)
+      unchanged _ (none_failed plan (FailsLater cause) memory refl) (ap units_of it.0.died)
   by_fate missing WithoutBuffer turn is it =
-      subst (λ (a : Access). Changes (memory_executed a WithoutBuffer memory))
-      (sym (without_buffer old.phase missing (may_fetch old) access is)) (executed [] [] it.0.executes)
+      subst (λ (p : Plan). Changes (memory_executed p WithoutBuffer memory))
+      (sym (without_buffer old.phase missing (may_fetch old) plan is)) (executed [] [] it.0.executes)
 
 pub turn_changes : (missing : Missing) (place : ℕ) (old : PortState) (memory : List ℕ) (turn : Turn) (new : PortState)
     (memory_after : List ℕ) → HasValidRings old

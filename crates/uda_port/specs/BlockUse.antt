@@ -4,12 +4,12 @@ use Rattle.std.specs.Prelude.{ℕ, List, [], length, Option, Some, None}
 use Rattle.uda_exec.specs.declared.block_use.BlockUse.{BlockUse}
 use Rattle.uda_exec.specs.BlockUse.{block_use_at, written_at}
 use Rattle.uda_exec.specs.Disks.{ExecState}
-use Rattle.uda_port.specs.declared.memory_use.Access.{Access}
-use Rattle.uda_port.specs.declared.memory_use.Access.TheVariants.{Execute}
 use Rattle.uda_port.specs.declared.memory_use.Missing.{Missing}
+use Rattle.uda_port.specs.declared.plan.Plan.{Plan}
+use Rattle.uda_port.specs.declared.plan.Plan.TheVariants.{ToExecute}
 use Rattle.uda_port.specs.declared.turn_at.Fate.{Fate}
 use Rattle.uda_port.specs.declared.turn_at.Fate.TheVariants.{Usual, WithoutBuffer}
-use Rattle.uda_port.specs.MemoryUse.{access_of, fate_of}
+use Rattle.uda_port.specs.MemoryUse.{fate_of}
 use Rattle.uda_port.specs.Plan.{plan_of}
 use Rattle.uda_port.specs.Port.{PortState}
 
@@ -19,15 +19,15 @@ memory_by Usual memory = Some memory
 memory_by WithoutBuffer memory = Some []
 memory_by _ memory = None
 
--- the same of a turn that does this: only one that executes a command has such a memory
-abbrev pub memory_executed : Access → Fate → List ℕ → Option (List ℕ)
-memory_executed Execute fate memory = memory_by fate memory
+-- the same of a turn of this plan: only one that executes a command has such a memory
+abbrev pub memory_executed : Plan → Fate → List ℕ → Option (List ℕ)
+memory_executed ToExecute fate memory = memory_by fate memory
 memory_executed _ fate memory = None
 
 -- the memory in which the next turn executes a pending command, if it executes one
 abbrev pub memory_for : Missing → PortState → List ℕ → Option (List ℕ)
 memory_for missing port memory =
-    memory_executed (access_of (plan_of port memory)) (fate_of missing port memory) memory
+    memory_executed (plan_of port memory) (fate_of missing port memory) memory
 
 -- the blocks that this command then uses, and the bytes that it writes to them
 abbrev pub blocks_in : ExecState → ℕ → Option (List ℕ) → Option BlockUse

@@ -9,8 +9,6 @@ use Rattle.uda_packet.specs.declared.command.Command.{Command}
 use Rattle.uda_exec.specs.declared.buffer_use.BufferUse.{BufferUse}
 use Rattle.uda_exec.specs.BufferUse.{buffer_use_at}
 use Rattle.uda_exec.specs.Order.{IsEligible}
-use Rattle.uda_port.specs.declared.memory_use.Access.{Access}
-use Rattle.uda_port.specs.declared.memory_use.Access.TheVariants.{Nothing, Fetch, Execute, Wait, Deliver}
 use Rattle.uda_port.specs.declared.memory_use.MemoryUse.{MemoryUse}
 use Rattle.uda_port.specs.declared.memory_use.Missing.{Missing}
 use Rattle.uda_port.specs.declared.turn_at.TurnTaken.{TurnTaken}
@@ -63,18 +61,9 @@ NONE_WRITTEN = EMPTY_RANGE ∷ EMPTY_RANGE ∷ EMPTY_RANGE ∷ EMPTY_RANGE ∷ [
 
 -- ---- what the next turn uses
 
--- what a turn does with memory, by its plan
-abbrev pub access_of : Plan → Access
-access_of (ToFetch d) = Fetch
-access_of ToExecute = Execute
-access_of (ToDeliver d n) = Deliver
-access_of ToWait = Wait
-access_of NoResponseRing = Wait
-access_of _ = Nothing
-
 -- nothing but the descriptors
-abbrev pub no_use : Access → MemoryUse
-no_use access = record { access = access; body = EMPTY_RANGE; written = NONE_WRITTEN }
+abbrev pub NO_USE : MemoryUse
+NO_USE = record { body = EMPTY_RANGE; written = NONE_WRITTEN }
 
 -- whether a packet with a text of n bytes is usable at an address
 abbrev pub has_text : List ℕ → ℕ → ℕ → Bool
@@ -97,7 +86,6 @@ written_by_fetch port memory true =
 -- packet: it reads the 48 bytes of the text and the four below them.
 abbrev pub fetch_use : PortState → List ℕ → ℕ → MemoryUse
 fetch_use port memory at = record {
-  access = Fetch;
   body = packet_range memory at 48;
   written = written_by_fetch port memory (has_text memory at 48);
 }
@@ -109,9 +97,8 @@ looked_up u = max u.used (min u.start 1)
 
 -- a command uses its buffer
 abbrev pub command_use : List ℕ → Option BufferUse → MemoryUse
-command_use memory None = no_use Execute
+command_use memory None = NO_USE
 command_use memory (Some u) = record {
-  access = Execute;
   body = range_in memory u.start (looked_up u);
   written = range_in memory u.start u.changed ∷ EMPTY_RANGE ∷ EMPTY_RANGE ∷ EMPTY_RANGE ∷ [];
 }
@@ -126,7 +113,6 @@ written_by_delivery port memory text true =
 
 abbrev pub delivery_use : PortState → List ℕ → ByteRange → MemoryUse
 delivery_use port memory text = record {
-  access = Deliver;
   body = packet_range memory text.at text.bytes;
   written = written_by_delivery port memory text (has_room port.profile memory text.at text.bytes);
 }
@@ -137,7 +123,7 @@ use_by port memory j (ToFetch d) = fetch_use port memory (text_address port.prof
 use_by port memory j ToExecute = command_use memory (buffer_use_at port.exec j)
 use_by port memory j (ToDeliver d n) =
     delivery_use port memory (record { at = text_address port.profile d; bytes = n })
-use_by port memory j plan = no_use (access_of plan)
+use_by port memory j _ = NO_USE
 
 -- what the next turn uses, if it executes the pending command at index j when it executes one
 abbrev pub use_of : PortState → List ℕ → ℕ → MemoryUse
@@ -147,26 +133,26 @@ use_of port memory j = use_by port memory j (plan_of port memory)
 
 -- A turn is as usual. Or it fails with a fatal error, before it stops polling or afterwards. Or it executes a
 -- command as if memory had no bytes.
-abbrev pub fate_at : Missing → Access → Fate
-fate_at missing Nothing = Usual
-fate_at missing Fetch = if missing.body then FailsInFetch PacketRead else Usual
-fate_at missing Execute = if missing.body then WithoutBuffer else Usual
-fate_at missing Wait = if missing.responses then FailsLater RingRead else Usual
-fate_at missing Deliver =
+abbrev pub fate_at : Missing → Plan → Fate
+fate_at missing (ToFetch d) = if missing.body then FailsInFetch PacketRead else Usual
+fate_at missing ToExecute = if missing.body then WithoutBuffer else Usual
+fate_at missing (ToDeliver d n) =
     if missing.responses then FailsLater RingRead else if missing.body then FailsLater PacketWrite else Usual
+fate_at missing ToWait = if missing.responses then FailsLater RingRead else Usual
+fate_at missing NoResponseRing = if missing.responses then FailsLater RingRead else Usual
+fate_at missing _ = Usual
 
 -- a port that may fetch reads the next command descriptor first
-abbrev pub fate_running : Missing → Bool → Access → Fate
-fate_running missing polls access =
-    if polls && missing.commands then FailsInFetch RingRead else fate_at missing access
+abbrev pub fate_running : Missing → Bool → Plan → Fate
+fate_running missing looks plan = if looks && missing.commands then FailsInFetch RingRead else fate_at missing plan
 
-abbrev pub fate_in : Phase → Missing → Bool → Access → Fate
-fate_in Running missing polls access = fate_running missing polls access
-fate_in _ missing polls access = Usual
+abbrev pub fate_in : Phase → Missing → Bool → Plan → Fate
+fate_in Running missing looks plan = fate_running missing looks plan
+fate_in _ missing looks plan = Usual
 
--- how the next turn goes, by what it does
+-- how the next turn goes, by its plan
 abbrev pub fate_of : Missing → PortState → List ℕ → Fate
-fate_of missing port memory = fate_in port.phase missing (may_fetch port) (access_of (plan_of port memory))
+fate_of missing port memory = fate_in port.phase missing (may_fetch port) (plan_of port memory)
 
 -- a port of this profile and in this phase can have this fate
 abbrev pub CanFail : Profile → Phase → Fate → Type 0

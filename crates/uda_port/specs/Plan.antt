@@ -1,6 +1,6 @@
 -- What the next turn will do, decided by the port and by the descriptors that it reads; and what a turn did.
 -- UDA50 Programmer's Documentation Kit: command ring polling, message envelopes, fatal errors.
-use Rattle.std.specs.Prelude.{◌≡◌, ℕ, Bool, true, false, List, [], ◌∷◌, length, Option, Some, None, option_map, if◌then◌else◌}
+use Rattle.std.specs.Prelude.{◌≡◌, ◌≤◌, ℕ, Bool, true, false, List, [], ◌∷◌, length, Option, Some, None, option_map, if◌then◌else◌}
 use Rattle.uda_packet.specs.declared.command.Command.{Command}
 use Rattle.uda_port.specs.declared.descriptor.Descriptor.{Descriptor}
 use Rattle.uda_port.specs.declared.phase.Fatal.TheVariants.{PacketRead, PacketWrite, RingRead}
@@ -36,7 +36,7 @@ plan_later (c ∷ cs) size response = ToExecute
 plan_later [] None response = NoMessage
 plan_later [] (Some n) response = plan_message n response
 
--- the port looks for a command: the plan by the next command descriptor, and by the plan if nothing is fetched
+-- the port looks for a command: the plan by the next command descriptor; `later` is the plan if nothing is fetched
 abbrev pub plan_found : Option Descriptor → Plan → Plan
 plan_found None later = NoCommandRing
 plan_found (Some d) later = if is_owned d then ToFetch d else later
@@ -46,7 +46,7 @@ abbrev pub plan_running : Bool → Option Descriptor → Plan → Plan
 plan_running true command later = plan_found command later
 plan_running false command later = later
 
--- the plan by the phase, and by the plan if the port runs
+-- the plan by the phase: `plan` if the port runs, and else AtRest
 abbrev pub plan_in : Phase → Plan → Plan
 plan_in Running plan = plan
 plan_in _ plan = AtRest
@@ -70,6 +70,11 @@ abbrev pub plan_of : PortState → List ℕ → Plan
 plan_of port memory =
     plan_by port (next_descriptor memory port.commands) (next_descriptor memory port.responses)
 
+-- a message that is to be delivered has at most 48 bytes
+abbrev pub HasShortText : Plan → Type 0
+HasShortText (ToDeliver d n) = n ≤ 48
+HasShortText _ = Unit {0}
+
 -- whether a plan is to execute a command
 abbrev pub is_execution : Plan → Bool
 is_execution ToExecute = true
@@ -84,11 +89,11 @@ pub record Step : Type 0 where
   pub new : PortState
   pub memory_after : List ℕ
 
--- a running port counts the turn, and then tries its rules
+-- the port after it counts the turn, before its rules
 abbrev pub counted : Step → PortState
 counted s = port_turn_on s.old
 
--- it stops polling when it has nothing to fetch
+-- the same port after it stops polling, since it has nothing to fetch
 abbrev pub stopped_polling : Step → PortState
 stopped_polling s = port_not_polling (port_turn_on s.old)
 

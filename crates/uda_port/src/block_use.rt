@@ -6,7 +6,8 @@ ghost use Rattle.uda_mem.specs.Put.{part};
 ghost use Rattle.uda_mem.specs.Slices.{IsMemory};
 ghost use Rattle.uda_port.specs.BlockUse.{memory_by, memory_executed, memory_for, blocks_of, block_bytes_of};
 
-use crate::memory_use::{Access, Missing};
+use crate::memory_use::Missing;
+use crate::plan::Plan;
 use crate::port::Port;
 use crate::turn_at::Fate;
 use uda_exec::BlockUse;
@@ -55,21 +56,21 @@ impl<S: BlockStore> Port<S> {
         ensures memory { option_map (λ m. m.now) result ≡ memory_for missing self.now memory.now }
         ensures valid { IfSome result (λ m. IsMemory m.now) }
     {
-        let access = self.plan(memory).access();
-        let fate = self.fate(missing, access);
-        memory_executed(access, fate, memory)
+        let plan = self.plan(memory);
+        let fate = self.fate(missing, plan);
+        memory_executed(plan, fate, memory)
     }
 }
 
-// Returns the memory in which a turn that does this, with this fate, executes a command.
-fn memory_executed(access: Access, fate: Fate, memory: &[u8]) -> Option<&[u8]>
+// Returns the memory in which a turn of this plan, with this fate, executes a command.
+fn memory_executed(plan: Plan, fate: Fate, memory: &[u8]) -> Option<&[u8]>
     requires memory { IsMemory memory.now }
-    ensures memory { option_map (λ m. m.now) result ≡ memory_executed access fate memory.now }
+    ensures memory { option_map (λ m. m.now) result ≡ memory_executed plan fate memory.now }
     ensures valid { IfSome result (λ m. IsMemory m.now) }
 {
-    match access {
-        Access::Execute => memory_by(fate, memory),
-        Access::Nothing | Access::Fetch | Access::Wait | Access::Deliver => None,
+    match plan {
+        Plan::ToExecute => memory_by(fate, memory),
+        _ => None,
     }
 }
 

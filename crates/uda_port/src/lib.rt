@@ -36,7 +36,7 @@ pub use attention::attention_arrives;
 pub use descriptor::Descriptor;
 pub use guest::Guest;
 pub use interrupt::Interrupts;
-pub use memory_use::{Access, MemoryUse, Missing};
+pub use memory_use::{MemoryUse, Missing};
 pub use packet::Fetched;
 pub use phase::{Fatal, Phase};
 pub use play::HostEvent;

@@ -10,11 +10,9 @@ ghost use Rattle.uda_port.specs.Interrupt.{ring_before};
 ghost use Rattle.uda_port.specs.Packet.{text_address};
 ghost use Rattle.uda_port.specs.Ring.{descriptor_address};
 ghost use Rattle.uda_port.specs.MemoryUse.{IsPlace, descriptor_ranges, packet_range, indicator_range, returned_range};
-ghost use Rattle.uda_port.specs.MemoryUse.{no_use, fetch_use, written_by_fetch, has_text, command_use, delivery_use};
+ghost use Rattle.uda_port.specs.MemoryUse.{fetch_use, written_by_fetch, has_text, command_use, delivery_use};
 ghost use Rattle.uda_port.specs.MemoryUse.{has_room, looked_up, use_by, use_of, AgreesInDescriptors};
-ghost use Rattle.uda_port.specs.Plan.{plan_of};
-ghost use Rattle.uda_port.specs.declared.descriptor.Descriptor.{Descriptor as DescriptorValue};
-ghost use Rattle.uda_port.specs.declared.plan.Plan.TheVariants.{ToDeliver};
+ghost use Rattle.uda_port.specs.Plan.{HasShortText, plan_of};
 
 use crate::descriptor::Descriptor;
 use crate::packet::{TEXT, has_room, has_text};
@@ -25,27 +23,10 @@ use uda_exec::BufferUse;
 use uda_image::BlockStore;
 use uda_mem::ByteRange;
 
-/// What the next turn does with host memory, in addition to reading descriptors.
-#[derive(Clone, Copy, Debug, PartialEq, Eq)]
-pub enum Access {
-    /// Nothing. The port doesn't run, it has nothing to do, or the next command descriptor isn't in memory.
-    Nothing,
-    /// The port reads a command packet, and returns its descriptor.
-    Fetch,
-    /// The port executes a pending command, which may use its buffer.
-    Execute,
-    /// Nothing. A message waits, and the port doesn't own the next response descriptor or can't read it.
-    Wait,
-    /// The port writes a message to its buffer, and returns the descriptor.
-    Deliver,
-}
-
 /// What the next turn uses of host memory, in addition to the descriptors that it reads
 /// ([`descriptor_ranges`](Port::descriptor_ranges)).
 #[derive(Clone, Copy, Debug, PartialEq, Eq)]
 pub struct MemoryUse {
-    /// What the turn does.
-    pub access: Access,
     /// The packet, or the buffer of the command. The turn reads or writes it, or part of it. Of a transfer of 0 bytes it
     /// is one byte: the turn doesn't read it, but its address must lead somewhere.
     pub body: ByteRange,
@@ -70,6 +51,12 @@ pub(crate) const NONE_WRITTEN: [ByteRange; 4] = [
     ByteRange::EMPTY,
     ByteRange::EMPTY,
 ];
+
+/// The use of a turn that uses only descriptors.
+const NO_USE: MemoryUse = MemoryUse {
+    body: ByteRange::EMPTY,
+    written: NONE_WRITTEN,
+};
 
 impl<S: BlockStore> Port<S> {
     /// Returns the index of the pending command that the next turn executes, if it executes one. It is for
@@ -116,20 +103,17 @@ impl<S: BlockStore> Port<S> {
     pub(crate) fn use_by(&self, plan: Plan, memory: &[u8], place: usize) -> MemoryUse
         requires memory { IsMemory memory.now }
         requires plan { plan ≡ plan_of self.now memory.now }
-        requires short { (next : DescriptorValue) (size : ℕ) → plan ≡ ToDeliver next size → size ≤ 48 }
+        requires short { HasShortText plan }
         ensures uses { result ≡ use_by self.now memory.now place plan }
         ensures body_within { LiesIn memory.now result.body }
         ensures written_within { All (LiesIn memory.now) result.written }
     {
         match plan {
-            Plan::AtRest => no_use(Access::Nothing),
-            Plan::NoCommandRing => no_use(Access::Nothing),
             Plan::ToFetch(next) => self.fetch_use(memory, next),
             Plan::ToExecute => command_use(memory, self.exec.buffer_use_at(place)),
-            Plan::NoMessage => no_use(Access::Nothing),
-            Plan::ToWait => no_use(Access::Wait),
-            Plan::NoResponseRing => no_use(Access::Wait),
             Plan::ToDeliver(next, size) => self.delivery_use(memory, next, size),
+            Plan::AtRest | Plan::NoCommandRing | Plan::NoMessage => NO_USE,
+            Plan::ToWait | Plan::NoResponseRing => NO_USE,
         }
     }
 
@@ -144,7 +128,6 @@ impl<S: BlockStore> Port<S> {
     {
         let at = next.text_address(self.profile);
         MemoryUse {
-            access: Access::Fetch,
             body: packet_range(memory, at, TEXT),
             written: self.written_by_fetch(memory, next, has_text(memory, at, TEXT)),
         }
@@ -182,7 +165,6 @@ impl<S: BlockStore> Port<S> {
     {
         let at = next.text_address(self.profile);
         let mut uses = MemoryUse {
-            access: Access::Deliver,
             body: packet_range(memory, at, size),
             written: NONE_WRITTEN,
         };
@@ -232,17 +214,6 @@ impl Ring {
     }
 }
 
-// Returns the use of a turn that does this and uses only descriptors.
-fn no_use(access: Access) -> MemoryUse
-    ensures { result ≡ no_use access }
-{
-    MemoryUse {
-        access,
-        body: ByteRange::EMPTY,
-        written: NONE_WRITTEN,
-    }
-}
-
 // Returns the use of a turn that executes a command with this buffer.
 fn command_use(memory: &[u8], buffer: Option<BufferUse>) -> MemoryUse
     requires memory { IsMemory memory.now }
@@ -250,7 +221,7 @@ fn command_use(memory: &[u8], buffer: Option<BufferUse>) -> MemoryUse
     ensures body_within { LiesIn memory.now result.body }
     ensures written_within { All (LiesIn memory.now) result.written }
 {
-    let mut uses = no_use(Access::Execute);
+    let mut uses = NO_USE;
     if let Some(buffer) = buffer {
         uses.body = ByteRange::clipped(buffer.start, looked_up(buffer), memory);
         uses.written[0] = ByteRange::clipped(buffer.start, buffer.changed, memory);

@@ -1,66 +1,46 @@
 //! What the next turn will do.
 //!
 //! UDA50 Programmer's Documentation Kit: command ring polling, message envelopes, fatal errors.
-ghost use Rattle.std.specs.Prelude.{◌≡◌, ◌≤◌, ℕ, IfSome};
+ghost use Rattle.std.specs.Prelude.{◌≡◌, ◌≤◌, IfSome};
 ghost use Rattle.uda_mem.specs.Slices.{IsMemory};
-ghost use Rattle.uda_port.specs.declared.descriptor.Descriptor.{Descriptor as DescriptorValue};
-ghost use Rattle.uda_port.specs.declared.plan.Plan.TheVariants.{ToDeliver};
-ghost use Rattle.uda_port.specs.MemoryUse.{access_of};
-ghost use Rattle.uda_port.specs.Plan.{next_size, plan_of, plan_running, plan_without_fetch};
+ghost use Rattle.uda_port.specs.Plan.{HasShortText, next_size, plan_of, plan_running, plan_without_fetch};
 ghost use Rattle.uda_port.specs.Ring.{next_descriptor};
 ghost use Rattle.uda_port.specs.Turn.{may_fetch};
 
 use crate::descriptor::Descriptor;
-use crate::memory_use::Access;
 use crate::phase::Phase;
 use crate::port::Port;
 use crate::ring::NextDescriptor;
 use uda_image::BlockStore;
 
-/// What the next turn will do, decided by the port and by the descriptors that it reads. A fetch or a delivery may
-/// still fail: whether its packet is usable is no part of the plan.
-#[derive(Clone, Copy, Debug, PartialEq, Eq)]
+/// What the next turn will do, decided by the port and by the descriptors that it reads. The plan leaves open whether
+/// the packet or the response buffer is usable.
+#[derive(Clone, Copy)]
 pub(crate) enum Plan {
     /// The port doesn't run, and does nothing.
     AtRest,
-    /// The port looks for a command, and the next command descriptor isn't in memory.
+    /// The port looks for a command, but the next command descriptor isn't in memory: it fails.
     NoCommandRing,
     /// The port fetches the packet of this command descriptor.
     ToFetch(Descriptor),
     /// The port executes a pending command.
     ToExecute,
-    /// The port has nothing to do.
+    /// No message waits: the port has nothing to do.
     NoMessage,
     /// A message waits, and the host owns the next response descriptor.
     ToWait,
-    /// A message waits, and the next response descriptor isn't in memory.
+    /// A message waits, but the next response descriptor isn't in memory: the port fails.
     NoResponseRing,
     /// The port delivers a message of this many bytes to the buffer of this response descriptor.
     ToDeliver(Descriptor, u16),
 }
 
-impl Plan {
-    /// Returns what a turn of this plan does with memory.
-    pub(crate) fn access(self) -> Access
-        ensures access { result ≡ access_of self }
-    {
-        match self {
-            Plan::ToFetch(_) => Access::Fetch,
-            Plan::ToExecute => Access::Execute,
-            Plan::ToDeliver(..) => Access::Deliver,
-            Plan::ToWait | Plan::NoResponseRing => Access::Wait,
-            Plan::AtRest | Plan::NoCommandRing | Plan::NoMessage => Access::Nothing,
-        }
-    }
-}
-
 impl<S: BlockStore> Port<S> {
-    /// Returns the plan of the next turn. The turn itself has the same rules, written out where it performs them
-    /// ([`turn`](Port::turn)).
+    /// Returns the plan of the next turn. [`turn`](Port::turn) applies the same rules, inlined in its own steps.
     pub(crate) fn plan(&self, memory: &[u8]) -> Plan
         requires memory { IsMemory memory.now }
         ensures plan { result ≡ plan_of self.now memory.now }
-        ensures short { (next : DescriptorValue) (size : ℕ) → result ≡ ToDeliver next size → size ≤ 48 }
+        ensures short { HasShortText result }
     {
         match self.phase {
             Phase::Running => self.running_plan(memory),
@@ -73,7 +53,7 @@ impl<S: BlockStore> Port<S> {
         requires memory { IsMemory memory.now }
         ensures plan { result ≡ plan_running (may_fetch self.now) (next_descriptor memory.now self.now.commands)
             (plan_without_fetch self.now memory.now) }
-        ensures short { (next : DescriptorValue) (size : ℕ) → result ≡ ToDeliver next size → size ≤ 48 }
+        ensures short { HasShortText result }
     {
         if !self.may_fetch() {
             return self.plan_without_fetch(memory);
@@ -89,7 +69,7 @@ impl<S: BlockStore> Port<S> {
     fn plan_without_fetch(&self, memory: &[u8]) -> Plan
         requires memory { IsMemory memory.now }
         ensures plan { result ≡ plan_without_fetch self.now memory.now }
-        ensures short { (next : DescriptorValue) (size : ℕ) → result ≡ ToDeliver next size → size ≤ 48 }
+        ensures short { HasShortText result }
     {
         if self.exec.pending() > 0 {
             return Plan::ToExecute;

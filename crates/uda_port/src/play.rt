@@ -36,7 +36,7 @@ impl<S: BlockStore> Port<S> {
     /// Applies the events in order, and returns SA after the last one. It ignores a write to a word that
     /// `memory` doesn't have.
     ///
-    /// For all events and any memory: if the port is dead afterwards, one of two cases holds. Either one of
+    /// For all events and any memory of a host: if the port is dead afterwards, one of two cases holds. Either one of
     /// the events met the cause of that fatal error, and no later event writes IP. Or the port was dead of
     /// the same cause before, and no event writes IP.
     ///

@@ -12,37 +12,40 @@ ghost use Rattle.uda_port.specs.Plan.{plan_of};
 ghost use Rattle.uda_port.specs.Port.{CreditsAgree};
 ghost use Rattle.uda_port.specs.Trace.{Reports, Traces, turn_of};
 ghost use Rattle.uda_port.specs.Turn.{TurnEffect, may_fetch, port_turn_on, port_not_polling};
-ghost use Rattle.uda_port.specs.MemoryUse.{access_of, fate_at, fate_running, fate_in, FailsUnread, ExecutesWithout};
+ghost use Rattle.uda_port.specs.MemoryUse.{NONE_WRITTEN, fate_at, fate_running, fate_in, FailsUnread, ExecutesWithout};
 ghost use Rattle.uda_port.specs.MemoryUse.{EffectBy, EffectWithout, written_by_fate, IsLocal, IsPlace};
 ghost use Rattle.uda_port.specs.MemoryUse.{HasValidRings, CanFail, Agrees, written_of};
 ghost use Rattle.uda_port.specs.Possible.{CanDie};
-ghost use Rattle.uda_port.specs.declared.memory_use.Access.TheVariants.{Execute};
 ghost use Rattle.uda_port.specs.declared.phase.Phase.TheVariants.{Running};
+ghost use Rattle.uda_port.specs.declared.plan.Plan.TheVariants.{ToExecute};
 ghost use Rattle.uda_port.specs.declared.turn_at.Fate.TheVariants.{WithoutBuffer};
 
-use crate::memory_use::{Access, Missing, NONE_WRITTEN};
+use crate::memory_use::{Missing, NONE_WRITTEN};
 use crate::phase::{Fatal, Phase};
+use crate::plan::Plan;
 use crate::port::Port;
 use crate::trace::Trace;
 use crate::turn::{Turn, report_dead};
 use uda_image::BlockStore;
 use uda_mem::ByteRange;
 
-/// What a turn over a bus is told: which command it executes, and which addresses lead nowhere.
+/// What the caller of a turn over a bus decides: which command it executes, and which addresses lead nowhere.
 #[derive(Clone, Copy, Debug, PartialEq, Eq)]
 pub struct BusTurn {
-    /// The index of the pending command that it executes, if it executes one ([`next_place`](Port::next_place)).
+    /// The index of the pending command to execute. [`next_place`](Port::next_place) returns one, and
+    /// [`is_place`](Port::is_place) tests one.
     pub place: usize,
-    /// Which of the addresses that it uses lead nowhere.
+    /// Which of the addresses that the turn uses lead nowhere.
     pub missing: Missing,
 }
 
-/// A turn that was taken, and what it wrote.
+/// The result of a turn.
 #[derive(Clone, Copy, Debug, PartialEq, Eq)]
 pub struct TurnTaken {
     /// What the turn did.
     pub turn: Turn,
-    /// The ranges of the window that it wrote, in this order. Some of them may be empty. Without a bus all are.
+    /// Over a bus: the ranges of the window that the turn wrote, in the order of its writes. Some may be empty.
+    /// Otherwise all are empty, whatever the turn wrote.
     pub written: [ByteRange; 4],
 }
 
@@ -59,32 +62,24 @@ pub enum Fate {
     WithoutBuffer,
 }
 
-// The course of a turn: its command, what it does, and its fate.
-#[derive(Clone, Copy, Debug, PartialEq, Eq)]
-struct Course {
-    place: usize,
-    access: Access,
-    fate: Fate,
-}
-
 impl<S: BlockStore> Port<S> {
-    /// Runs one turn as [`turn_in`](Port::turn_in) does, and stores its trace record. `bus` is None if `memory` is
-    /// the host's. Otherwise `memory` is a window as long as a bus, through whose map registers the host's memory is
-    /// reached.
+    /// Runs one turn, and stores its trace record. If `bus` is None, `memory` is the host's, as with
+    /// [`turn_in`](Port::turn_in). Otherwise the host's memory is reached through map registers, and `memory` is a
+    /// window, which has as many bytes as the bus has addresses.
     ///
     /// Before a turn over a bus the caller copies [`descriptor_ranges`](Port::descriptor_ranges) into the window, and
     /// then the body of [`memory_use`](Port::memory_use). Nothing else in the window matters. After the turn the
     /// caller copies the written ranges out of the window, in their order.
     ///
-    /// `missing` tells which of these ranges have an address that leads nowhere. A turn that needs one is as at the
-    /// end of memory. For a packet, a response buffer or the next descriptor of a ring the port fails. A command
-    /// whose buffer is missing ends with status 0x0069 unless an earlier check fails, and moves nothing. A turn
-    /// that doesn't need the range is as usual. A missing descriptor before the next one counts as one that the
+    /// `missing` tells in which of the ranges that were copied in an address leads nowhere. A turn that needs one is
+    /// as at the end of memory. For a packet, a response buffer or the next descriptor of a ring the port fails. A
+    /// command whose buffer is missing ends with status 0x0069 unless an earlier check fails, and moves nothing. A
+    /// turn that doesn't need the range is as usual. A missing descriptor before the next one counts as one that the
     /// host owns, so the caller fills its range with zeros.
     ///
-    /// Only the blocks of [`blocks_at`](Port::blocks_at) may change, and only by a Write or an Erase. They get the
-    /// bytes of [`copy_written`](Port::copy_written), up to a block at which the store fails. That block may have
-    /// any 512 bytes. This holds of each unit whose store is sound after the turn.
+    /// Over a bus only the blocks of [`blocks_at`](Port::blocks_at) may change, and only by a Write or an Erase. They
+    /// get the bytes of [`copy_written`](Port::copy_written), up to a block at which the store fails. That block may
+    /// have any 512 bytes. This holds of each unit whose store is sound after the turn.
     ///
     /// UDA50 Programmer's Documentation Kit: command ring polling, UNIBUS addresses, fatal errors.
     pub fn turn_at(
@@ -95,8 +90,9 @@ impl<S: BlockStore> Port<S> {
     ) -> TurnTaken
         requires memory { IsMemory memory.old }
         requires place { IfSome bus (λ b. IsPlace self.old.exec.pending b.now.place) }
-        ensures whole { IfNone bus.entry (TurnEffect self.old.phase self.old memory.old result.turn self.new memory.new) }
-        ensures effect { IfSome bus.entry (λ b.
+        ensures effect { IfNone bus.entry (TurnEffect self.old.phase self.old memory.old result.turn self.new memory.new) }
+        ensures none_told { IfNone bus.entry (result.written ≡ NONE_WRITTEN) }
+        ensures effect_over_bus { IfSome bus.entry (λ b.
             EffectWithout b.now.missing b.now.place (self.old, memory.old) result.turn (self.new, memory.new)) }
         ensures local { IfSome bus.entry (λ b.
             IsLocal b.now.missing b.now.place (self.old, memory.old) result (self.new, memory.new)) }
@@ -126,8 +122,9 @@ impl<S: BlockStore> Port<S> {
     ) -> TurnTaken
         requires memory { IsMemory memory.old }
         requires place { IfSome bus (λ b. IsPlace self.old.exec.pending b.now.place) }
-        ensures whole { IfNone bus.entry (TurnEffect self.old.phase self.old memory.old result.turn self.new memory.new) }
-        ensures effect { IfSome bus.entry (λ b.
+        ensures effect { IfNone bus.entry (TurnEffect self.old.phase self.old memory.old result.turn self.new memory.new) }
+        ensures none_told { IfNone bus.entry (result.written ≡ NONE_WRITTEN) }
+        ensures effect_over_bus { IfSome bus.entry (λ b.
             EffectWithout b.now.missing b.now.place (self.old, memory.old) result.turn (self.new, memory.new)) }
         ensures local { IfSome bus.entry (λ b.
             IsLocal b.now.missing b.now.place (self.old, memory.old) result (self.new, memory.new)) }
@@ -146,16 +143,16 @@ impl<S: BlockStore> Port<S> {
                     written: NONE_WRITTEN,
                 }
             }
-            Some(bus) => self.take_turn_at(memory, bus, trace),
+            Some(bus) => self.take_bus_turn(memory, bus, trace),
         }
     }
 
-    // Runs one turn over a bus. The function isn't inlined, so that a turn over the host's memory is.
+    // Runs one turn over a bus. It isn't inlined, so that `turn_at` remains small enough to be inlined.
     #[inline(never)]
-    fn take_turn_at(&mut self, memory: &mut [u8], bus: &BusTurn, trace: &mut Trace) -> TurnTaken
+    fn take_bus_turn(&mut self, memory: &mut [u8], bus: &BusTurn, trace: &mut Trace) -> TurnTaken
         requires memory { IsMemory memory.old }
         requires place { IsPlace self.old.exec.pending bus.now.place }
-        ensures effect { EffectWithout bus.now.missing bus.now.place (self.old, memory.old) result.turn
+        ensures effect_over_bus { EffectWithout bus.now.missing bus.now.place (self.old, memory.old) result.turn
             (self.new, memory.new) }
         ensures local { IsLocal bus.now.missing bus.now.place (self.old, memory.old) result (self.new, memory.new) }
         ensures within { All (LiesIn memory.old) result.written }
@@ -168,14 +165,8 @@ impl<S: BlockStore> Port<S> {
         self.rings_are_valid();
         let plan = self.plan(memory);
         let uses = self.use_by(plan, memory, bus.place);
-        let access = plan.access();
-        let fate = self.fate(bus.missing, access);
-        let course = Course {
-            place: bus.place,
-            access,
-            fate,
-        };
-        let turn = self.turn_by(memory, course, trace);
+        let fate = self.fate(bus.missing, plan);
+        let turn = self.turn_by(memory, bus.place, fate, trace);
         TurnTaken {
             turn,
             written: written_by_fate(fate, uses.written),
@@ -197,34 +188,33 @@ impl<S: BlockStore> Port<S> {
         let _place = self.commands.place();
     }
 
-    // Returns the fate of a turn that does this.
-    pub(crate) fn fate(&self, missing: Missing, access: Access) -> Fate
-        ensures { result ≡ fate_in self.now.phase missing (may_fetch self.now) access }
+    // Returns the fate of a turn of this plan.
+    pub(crate) fn fate(&self, missing: Missing, plan: Plan) -> Fate
+        ensures { result ≡ fate_in self.now.phase missing (may_fetch self.now) plan }
     {
         match self.phase {
-            Phase::Running => fate_running(missing, self.may_fetch(), access),
+            Phase::Running => fate_running(missing, self.may_fetch(), plan),
             _ => Fate::Usual,
         }
     }
 
-    // Runs a turn of this course.
-    fn turn_by(&mut self, memory: &mut [u8], course: Course, trace: &mut Trace) -> Turn
+    // Runs a turn with this fate, which executes the command at index `place` when it executes one.
+    fn turn_by(&mut self, memory: &mut [u8], place: usize, fate: Fate, trace: &mut Trace) -> Turn
         requires memory { IsMemory memory.old }
-        requires access { course.access ≡ access_of (plan_of self.old memory.old) }
-        requires place { IsPlace self.old.exec.pending course.place }
-        requires buffer { course.fate ≡ WithoutBuffer → course.access ≡ Execute }
-        requires dies { CanFail self.old.profile self.old.phase course.fate }
-        ensures effect { EffectBy course.fate course.place (self.old, memory.old) result (self.new, memory.new) }
+        requires place { IsPlace self.old.exec.pending place }
+        requires buffer { fate ≡ WithoutBuffer → plan_of self.old memory.old ≡ ToExecute }
+        requires dies { CanFail self.old.profile self.old.phase fate }
+        ensures effect { EffectBy fate place (self.old, memory.old) result (self.new, memory.new) }
         ensures reports { Reports result trace.new self.old self.new }
     {
-        match course.fate {
-            Fate::Usual => self.take_turn(memory, Some(course.place), trace),
+        match fate {
+            Fate::Usual => self.take_turn(memory, Some(place), trace),
             Fate::FailsInFetch(cause) => self.fail_turn(cause, trace),
             Fate::FailsLater(cause) => {
                 self.polling = false;
                 self.fail_turn(cause, trace)
             }
-            Fate::WithoutBuffer => self.turn_without_buffer(course.place, trace),
+            Fate::WithoutBuffer => self.turn_without_buffer(place, trace),
         }
     }
 
@@ -253,25 +243,27 @@ impl<S: BlockStore> Port<S> {
     }
 }
 
-// Returns the fate of a turn of a running port, by whether it polls.
-fn fate_running(missing: Missing, polls: bool, access: Access) -> Fate
-    ensures { result ≡ fate_running missing polls access }
+// Returns the fate of a turn of a running port, by whether it may fetch, and by its plan.
+fn fate_running(missing: Missing, looks: bool, plan: Plan) -> Fate
+    ensures { result ≡ fate_running missing looks plan }
 {
-    if polls && missing.commands {
+    if looks && missing.commands {
         return Fate::FailsInFetch(Fatal::RingRead);
     }
-    fate_at(missing, access)
+    fate_at(missing, plan)
 }
 
-// Returns the fate of a turn that does this.
-fn fate_at(missing: Missing, access: Access) -> Fate
-    ensures { result ≡ fate_at missing access }
+// Returns the fate of a turn of this plan whose command descriptor is there.
+fn fate_at(missing: Missing, plan: Plan) -> Fate
+    ensures { result ≡ fate_at missing plan }
 {
-    match access {
-        Access::Fetch if missing.body => Fate::FailsInFetch(Fatal::PacketRead),
-        Access::Execute if missing.body => Fate::WithoutBuffer,
-        Access::Wait | Access::Deliver if missing.responses => Fate::FailsLater(Fatal::RingRead),
-        Access::Deliver if missing.body => Fate::FailsLater(Fatal::PacketWrite),
+    match plan {
+        Plan::ToFetch(_) if missing.body => Fate::FailsInFetch(Fatal::PacketRead),
+        Plan::ToExecute if missing.body => Fate::WithoutBuffer,
+        Plan::ToWait if missing.responses => Fate::FailsLater(Fatal::RingRead),
+        Plan::NoResponseRing if missing.responses => Fate::FailsLater(Fatal::RingRead),
+        Plan::ToDeliver(..) if missing.responses => Fate::FailsLater(Fatal::RingRead),
+        Plan::ToDeliver(..) if missing.body => Fate::FailsLater(Fatal::PacketWrite),
         _ => Fate::Usual,
     }
 }

@@ -1,19 +1,19 @@
 use Rattle.std.proofs.Common.{inl, subst, sym}
 use Rattle.uda_c.specs.declared.call_status.CallStatus.TheVariants.{Done}
 use Rattle.uda_c.specs.ControllerState.{ControllerState}
-use Rattle.uda_c.specs.Maps.{TakesTurnsBehind}
+use Rattle.uda_c.specs.Maps.{TakesTurnsThroughMap}
 use Rattle.uda_c.proofs.controller.Controller.run_mapped.Goals as goal
 
 pub returns-in-Ok : goal.returns-in-Ok
 returns-in-Ok c =
     let bus = c.in-Ok.field-0.bus in
     let memory = c.args.memory.now in
-    let ran = c.run_behind-answer in
+    let ran = c.run_through-answer in
     let from_old = subst
-    (λ (s : ControllerState). TakesTurnsBehind bus c.args.limit Done (s, memory)
+    (λ (s : ControllerState). TakesTurnsThroughMap bus c.args.limit Done (s, memory)
     (ran.result, (ran.new.self, ran.new.memory))) c.ready.ensures.same ran.ensures.runs in
     let runs = subst
-    (λ (s : ControllerState). TakesTurnsBehind bus c.args.limit Done (c.args.self.now, memory)
+    (λ (s : ControllerState). TakesTurnsThroughMap bus c.args.limit Done (c.args.self.now, memory)
     (ran.result, (s, ran.new.memory))) (sym c.self.view_is) from_old in
     record {
       runs = record {

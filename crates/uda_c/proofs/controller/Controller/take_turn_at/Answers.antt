@@ -12,9 +12,9 @@ invariant_of-self c =
     let old = c.self.inside.port in
     let taken = c.turn_at-taken in (
       effect_faithful c.missing-missing.result _ (old, c.args.memory.now) taken.result.turn
-          (taken.new.self, taken.new.memory) taken.ensures.effect c.self.invariant.0,
+          (taken.new.self, taken.new.memory) taken.ensures.effect_over_bus c.self.invariant.0,
       effect_fits c.missing-missing.result _ (old, c.args.memory.now) taken.result.turn
-          (taken.new.self, taken.new.memory) taken.ensures.effect c.self.invariant.1,
+          (taken.new.self, taken.new.memory) taken.ensures.effect_over_bus c.self.invariant.1,
     )
 
 pub returns : goal.returns
@@ -29,5 +29,5 @@ returns c =
     (record asked { written = taken.result.written })
     (record { port = taken.new.self; last = Some taken.new.trace }, taken.new.memory)) c.self.view_is
     (takes_at _ memory asked c.missing-missing.result c.place_of-place.result taken.result taken.new.trace
-    taken.new.self taken.new.memory c.missing-missing.ensures asks taken.ensures.effect taken.ensures.local
+    taken.new.self taken.new.memory c.missing-missing.ensures asks taken.ensures.effect_over_bus taken.ensures.local
     taken.ensures.within taken.ensures.written taken.ensures.used_blocks taken.ensures.turn taken.ensures.accurate)

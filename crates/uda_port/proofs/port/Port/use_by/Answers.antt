@@ -1,6 +1,8 @@
 use Rattle.std.proofs.Common.{sym, subst, rules, ◌∙◌}
+use Rattle.uda_port.specs.Plan.{HasShortText}
 use Rattle.uda_port.specs.Ring.{descriptor_address}
-use Rattle.uda_port.proofs.PlanLaws.{Follows, follows, read_within}
+use Rattle.uda_port.proofs.PlanLaws.{Follows, follows}
+use Rattle.uda_port.proofs.RingLaws.{descriptor_at-within}
 use Rattle.uda_port.proofs.port.Port.use_by.Goals as goal
 
 pub fetch_use-requires : goal.fetch_use-requires
@@ -8,7 +10,7 @@ fetch_use-requires g c =
     let memory = c.args.memory.now in
     let port = c.args.self.now in
     let it = subst (Follows port memory) (sym c.requires.plan ∙ c.in-ToFetch.is) (follows port memory) in
-    let there = read_within memory (descriptor_address port.commands) c.in-ToFetch.next it.is_next in
+    let there = descriptor_at-within memory (descriptor_address port.commands) c.in-ToFetch.next it.is_next in
     (search rules, (c.requires.memory, (it, there)))
 
 pub delivery_use-requires : goal.delivery_use-requires
@@ -17,5 +19,5 @@ delivery_use-requires g c =
     let port = c.args.self.now in
     let next = c.in-ToDeliver.next in
     let it = subst (Follows port memory) (sym c.requires.plan ∙ c.in-ToDeliver.is) (follows port memory) in
-    let there = read_within memory (descriptor_address port.responses) next it.is_next in
-    (search rules, (c.requires.memory, (it, (there, c.requires.short next c.in-ToDeliver.size c.in-ToDeliver.is))))
+    let there = descriptor_at-within memory (descriptor_address port.responses) next it.is_next in
+    (search rules, (c.requires.memory, (it, (there, subst HasShortText c.in-ToDeliver.is c.requires.short))))

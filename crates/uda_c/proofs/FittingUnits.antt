@@ -34,13 +34,12 @@ use Rattle.uda_port.specs.Saved.{RestoreEffect, saved_port}
 use Rattle.uda_port.specs.Startup.{has_bit, after_wrap_request, area_of, has_area, refuses_second, refuses_third, asks_test, after_sa_write, failed_port}
 use Rattle.uda_port.specs.Plan.{Step, counted, plan_of, Rests, CommandRingLost, Unreadable, Exceeds, BadConnection, Fetches, Executes, DeliversEnd, Notifies, Waits, ResponseRingLost, NoRoom}
 use Rattle.uda_port.specs.Turn.{port_turn_on, port_with_message, port_not_polling, may_fetch, ExecutesOne, ExecutesFor, TurnEffect}
-use Rattle.uda_port.specs.declared.plan.Plan.{Plan}
 use Rattle.uda_port.specs.declared.memory_use.Missing.{Missing}
 use Rattle.uda_port.specs.declared.turn_at.Fate.{Fate}
 use Rattle.uda_port.specs.declared.turn_at.Fate.TheVariants.{Usual, FailsInFetch, FailsLater, WithoutBuffer}
-use Rattle.uda_port.specs.MemoryUse.{fate_in, fate_of, CanFail, EffectBy, EffectWithout}
+use Rattle.uda_port.specs.MemoryUse.{fate_of, CanFail, EffectBy, EffectWithout}
 use Rattle.uda_port.specs.StartupUse.{WordEffect}
-use Rattle.uda_port.proofs.MemoryUseLaws.{fate_fails}
+use Rattle.uda_port.proofs.MemoryUseLaws.{fate_fails, running_fails}
 use Rattle.uda_c.specs.ControllerState.{ControllerState}
 use Rattle.uda_c.specs.Controllers.{controller_at_start, unit_with, with_store}
 use Rattle.uda_image.specs.Store.{StoreState}
@@ -372,16 +371,10 @@ turn_fits turn old memory new after goes fits =
     ]
 
 -- a turn over memory through map registers
-fails_running : (phase : Phase) (missing : Missing) (looks : Bool) (plan : Plan)
-    → (fate_in phase missing looks plan ≡ Usual → ⊥) → phase ≡ Running
-fails_running Running missing looks plan fails = refl
-fails_running _ missing looks plan fails = absurd (fails refl)
-
 module _ (missing : Missing) (place : ℕ) (turn : Turn) (old : PortState) (memory : List ℕ) (new : PortState)
     (after : List ℕ) (same : unit_attributes new.exec.units ≡ unit_attributes old.exec.units) where
   runs : (fate : Fate) → fate_of missing old memory ≡ fate → (fate ≡ Usual → ⊥) → old.phase ≡ Running
-  runs fate is fails =
-      fails_running old.phase missing (may_fetch old) (plan_of old memory) (λ usual. fails (sym is ∙ usual))
+  runs fate is fails = running_fails missing old memory (λ usual. fails (sym is ∙ usual))
 
   of_turn : (cause : Fatal) → CanDie old.profile old.phase cause → old.phase ≡ Running → is_of_turn cause ≡ true
   of_turn cause can phase = sym can.ran ∙ ap has_run phase

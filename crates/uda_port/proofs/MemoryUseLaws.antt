@@ -1015,3 +1015,12 @@ fate_fails profile Running missing looks plan =
         (if_can profile missing.body _ _ (writes_no_packet profile Running refl) tt)
     by _ = tt
 fate_fails profile _ missing looks plan = tt
+
+-- only a running port's turn has another fate than the usual one
+pub running_fails : (missing : Missing) (port : PortState) (memory : List ℕ)
+    → (fate_of missing port memory ≡ Usual → ⊥) → port.phase ≡ Running
+running_fails missing port memory fails = by port.phase fails
+  where
+    by : (phase : Phase) → (fate_in phase missing (may_fetch port) (plan_of port memory) ≡ Usual → ⊥) → phase ≡ Running
+    by Running not = refl
+    by _ not = absurd (not refl)

@@ -1,8 +1,8 @@
 -- Ports that differ only in their counts have the same future.
-use Rattle.std.proofs.Common.{◌≡◌, ℕ, suc, ◌+◌, ◌<◌, ◌≤◌, ◌↔◌, ◌==◌, Bool, true, false, ◌&&◌, ◌||◌, List, [], ◌∷◌, length, Result, Ok, Err, refl, sym, ap, ◌∙◌, arith}
-use Rattle.std.specs.Prelude.{if◌then◌else◌, not, nat_lt, IsTrue}
+use Rattle.std.proofs.Common.{◌≡◌, ℕ, ◌+◌, ◌<◌, ◌≤◌, ◌↔◌, ◌==◌, Bool, true, false, ◌||◌, List, [], ◌∷◌, length, Result, refl, sym, ap, ◌∙◌, arith}
+use Rattle.std.specs.Prelude.{not, nat_lt, IsTrue}
 use Rattle.uda_packet.specs.declared.guest_command.GuestOp.{GuestOp}
-use Rattle.std.proofs.lemmas.Bool.{lt-ltb, eqb-true, eq-eqb, and_parts, ltb_from_iff, not-true}
+use Rattle.std.proofs.lemmas.Bool.{eqb-true, eq-eqb, and_parts, ltb_from_iff}
 use Rattle.std.proofs.lemmas.Bool.Decides.{nat_tests}
 use Rattle.std.proofs.lemmas.List.{nil_from_length}
 use Rattle.uda_packet.specs.declared.reply.Reply.{Reply}
@@ -12,9 +12,8 @@ use Rattle.uda_exec.proofs.Saving.{restored_is_saved as exec_is_saved}
 use Rattle.uda_exec.specs.Saved.{saved_exec}
 use Rattle.uda_exec.specs.declared.saved.SavedExec.{SavedExec}
 use Rattle.uda_port.specs.declared.phase.Phase.{Phase}
-use Rattle.uda_port.specs.declared.phase.Fatal.TheVariants.{CreditsExceeded, InvalidConnection}
 use Rattle.uda_port.specs.declared.profile.Profile.{Profile}
-use Rattle.uda_port.specs.declared.profile.Profile.TheVariants.{Strict, Compatible}
+use Rattle.uda_port.specs.declared.profile.Profile.TheVariants.{Strict}
 use Rattle.uda_port.specs.declared.packet.Fetched.{Fetched as Packet}
 use Rattle.uda_port.specs.declared.port.Port.TheInside.{Inside}
 use Rattle.uda_port.specs.declared.saved.Saved.{Saved}
@@ -25,19 +24,16 @@ use Rattle.uda_port.specs.declared.play.HostEvent.TheVariants.{WriteIp, ReadIp, 
 use Rattle.uda_port.specs.Ring.{RingState}
 use Rattle.uda_port.specs.Message.{message_in}
 use Rattle.uda_port.specs.Port.{PortState, next_grant, credits_granted, port_restarted, port_after_ip_read}
-use Rattle.uda_port.specs.Startup.{after_sa_write, failed_port}
+use Rattle.uda_port.specs.Startup.{after_sa_write}
 use Rattle.uda_port.specs.Turn.{Unchanged, port_with_message, TakesPacket, TurnEffect}
 use Rattle.uda_port.specs.Plan.{Step, counted, Rests, CommandRingLost, Unreadable, Exceeds, BadConnection, Fetches, Executes, DeliversEnd, Notifies, Waits, ResponseRingLost, NoRoom}
 use Rattle.uda_port.specs.Events.{EventEffect, EventsEffect}
 use Rattle.uda_port.proofs.PlanLaws.{AnyCase, case_of, effect_of}
-use Rattle.uda_port.specs.Possible.{has_run, has_rings, has_phase, can_interrupt, rings_fit, is_base_by, is_next_to, are_unused, is_unset, guest_fits, queue_fits, is_first_position, HasNoWork}
+use Rattle.uda_port.specs.Possible.{has_run, has_phase, can_interrupt, rings_fit, guest_fits, queue_fits, HasNoWork}
 use Rattle.uda_port.proofs.PossibleLaws.{first_position}
 use Rattle.uda_port.specs.Saved.{work_fits, has_no_work, profile_fits, saved_port, port_restored, is_consistent, outstanding, credits_due, lists_ops, least_deliveries, Counts, with_counts, RestoredIsSaved, SameFuture}
 
 -- ---- what was saved
-
-positive : (n : ℕ) → nat_lt 0 (suc n) ≡ true
-positive n = lt-ltb 0 (suc n) (omega arith)
 
 pub restored_is_saved : RestoredIsSaved
 restored_is_saved port exec listed same =
@@ -65,12 +61,10 @@ due_of deliveries credits fetches outstanding granted used = grind (arith, nat_t
 
 lists_none : (profile : Profile) (ops : List GuestOp) → (profile ≡ Strict → ops ≡ [])
     → not (lists_ops profile ops) ≡ true
-lists_none Strict ops none = rw (none refl)
-lists_none (Compatible identity) ops none = refl
+lists_none profile ops none = grind arith
 
-work_by : (s : Saved) (run : Bool) → (run ≡ false → has_no_work s ≡ true) → (run || has_no_work s) ≡ true
-work_by s true none = refl
-work_by s false none = none refl
+work_by : (run other : Bool) → (run ≡ false → other ≡ true) → (run || other) ≡ true
+work_by run other none = grind arith
 
 -- the state of a port with these fields
 abbrev pub state_of : {S : Type 0} → Inside S → PortState
@@ -95,30 +89,16 @@ pub consistent : {S : Type 0} (p : Inside S) → PortInvariant p → is_consiste
 consistent p is =
     let s = saved_port (state_of p) in
     let due = due_of p.deliveries p.credits p.fetches (outstanding s) is.credits is.conserved in
-    let work = work_by s (has_run p.phase) (λ not_run.
+    let work = work_by (has_run p.phase) (has_no_work s) (λ not_run.
     let none = is.possible.no_work not_run in
     rw (none.not_polling, none.none_delivered, none.none_pending, none.none_waiting, none.at_first)) in
     let q = is.possible in
     rw (q.phase, q.interrupts, q.rings, q.guest, eq-eqb _ _ due, work, lists_none _ _ is.strict, q.queue)
 
-abbrev saved_as : {S : Type 0} → Inside S → Bool → List Reply → SavedExec → Saved
-saved_as p begun waiting exec = record {
-  profile = p.profile;
-  phase = p.phase;
-  begun = begun;
-  responses = p.responses;
-  commands = p.commands;
-  waiting = record { items = waiting };
-  polling = p.polling;
-  credits = p.credits;
-  interrupts = p.interrupts;
-  guest = p.guest;
-  exec = exec;
-}
-
 pub is_saved : {S : Type 0} (p : Inside S) (waiting : List Reply) (exec : SavedExec) → PortInvariant p
     → waiting ≡ p.waiting.items → exec ≡ saved_exec p.exec
-    → saved_as p p.begun waiting exec ≡ saved_port (state_of p)
+    → record (saved_port (state_of p)) { begun = p.begun; waiting = record { items = waiting }; exec = exec }
+    ≡ saved_port (state_of p)
 is_saved p waiting exec is queue executor = rw (ltb_from_iff is.begun, queue, executor)
 
 -- ---- what continues from it
@@ -141,56 +121,44 @@ credits_agree : (begun : Bool) (credits n : ℕ) → credits + n ≡ credits_due
     → credits + (least_deliveries begun + n) ≡ credits_granted (least_deliveries begun)
 credits_agree begun credits n is = grind arith
 
-begun_agrees : (begun : Bool) → IsTrue begun ↔ (0 < least_deliveries begun)
-begun_agrees begun = grind arith
-
 none_listed : (profile : Profile) (ops : List GuestOp) → not (lists_ops profile ops) ≡ true → profile ≡ Strict
     → ops ≡ []
 none_listed profile ops none is = grind arith
 
 -- the command ring isn't below the response ring
-placed_in_order : (has : Bool) (profile : Profile) (run : Bool) (a b : RingState)
-    → (if has then is_base_by profile a.base && (is_next_to a b && (run || are_unused a b)) else is_unset a && is_unset b)
-    ≡ true → a.base ≤ b.base
-placed_in_order has profile run a b is = grind (arith, nat_tests)
+placed_in_order : (profile : Profile) (phase : Phase) (a b : RingState) → rings_fit profile phase a b ≡ true
+    → a.base ≤ b.base
+placed_in_order profile phase a b is = grind (arith, nat_tests)
 
-no_work_by : (s : Saved) (run : Bool) → (run || has_no_work s) ≡ true → run ≡ false → SavedNoWork s
-no_work_by s true is not-run = absurd (cc)
-no_work_by s false is not-run =
-    let first = and_parts (not s.polling) _ is in
-    let second = and_parts (not s.begun) _ first.1 in
-    let third = and_parts (outstanding s == 0) (is_first_position s.exec.position) second.1 in
-    let none : outstanding s ≡ 0 = eqb-true _ _ third.0 in
-    record {
-      not_polling = not-true s.polling first.0;
-      none_delivered = rw (not-true s.begun second.0);
-      none_pending = nil_from_length s.exec.pending.items (omega arith);
-      none_waiting = nil_from_length s.waiting.items (omega arith);
-      at_first = first_position s.exec.position third.1;
-    }
+no_work_by : (s : Saved) → has_no_work s ≡ true → SavedNoWork s
+no_work_by s is = record {
+  not_polling = grind arith;
+  none_delivered = grind arith;
+  none_pending = nil_from_length _ (grind (arith, nat_tests));
+  none_waiting = nil_from_length _ (grind (arith, nat_tests));
+  at_first = first_position s.exec.position (grind arith);
+}
 
 pub agrees : (s : Saved) → is_consistent s ≡ true → Agrees s
 agrees s consistent =
-    let phase = and_parts (has_phase s.profile s.phase) _ consistent in
-    let interrupts = and_parts (can_interrupt s.profile s.phase s.interrupts) _ phase.1 in
-    let rings = and_parts (rings_fit s.profile s.phase s.responses s.commands) _ interrupts.1 in
-    let guest = and_parts (guest_fits s.profile s.phase s.guest) (work_fits s && profile_fits s) rings.1 in
+    let phase = and_parts _ _ consistent in
+    let interrupts = and_parts _ _ phase.1 in
+    let rings = and_parts _ _ interrupts.1 in
+    let guest = and_parts _ _ rings.1 in
     let both = and_parts (work_fits s) (profile_fits s) guest.1 in
-    let granted = s.credits + outstanding s == credits_due s.begun in
-    let work = and_parts granted (has_run s.phase || has_no_work s) both.0 in
-    let none = not (lists_ops s.profile s.exec.guest_ops.items) in
-    let of_profile = and_parts none (queue_fits s.profile s.waiting.items) both.1 in
+    let work = and_parts (s.credits + outstanding s == credits_due s.begun) _ both.0 in
+    let of_profile = and_parts (not (lists_ops s.profile s.exec.guest_ops.items)) _ both.1 in
     record {
       credits = credits_agree s.begun s.credits (outstanding s) (eqb-true _ _ work.0);
-      ordered = placed_in_order (has_rings s.phase) s.profile (has_run s.phase) s.responses s.commands rings.0;
-      begun = begun_agrees s.begun;
-      strict = none_listed s.profile s.exec.guest_ops.items of_profile.0;
+      ordered = placed_in_order s.profile s.phase s.responses s.commands rings.0;
+      begun = grind arith;
+      strict = none_listed _ _ of_profile.0;
       phase = phase.0;
       interrupts = interrupts.0;
       rings = rings.0;
       guest = guest.0;
       queue = of_profile.1;
-      no_work = no_work_by s (has_run s.phase) work.1;
+      no_work = λ not_run. no_work_by s (rw not_run at work.1);
     }
 
 -- ---- a turn
@@ -208,8 +176,7 @@ record LeadsAlso (P : PortState → Type 0) (new : PortState) : Type 0 where
 -- a message changes no count
 message_same : (k : Counts) (old : PortState) (m : Result GuestCommand Reply)
     → port_with_message (with_counts k old) m ≡ with_counts k (port_with_message old m)
-message_same k old (Ok c) = refl
-message_same k old (Err r) = refl
+message_same k old m = grind arith
 
 message_deliveries : (old : PortState) (m : Result GuestCommand Reply)
     → (port_with_message old m).deliveries ≡ old.deliveries
@@ -243,15 +210,17 @@ module _ (k : Counts) (turn : Turn) (s : Step) (begun : nat_lt 0 k.deliveries �
   turns_also (Unreadable d line same) =
       leaves once same.state begun (Unreadable (assumption) (assumption) (with once same))
   turns_also (Exceeds d before line is) =
-      leaves once (is ∙ ap (λ (p : PortState). failed_port p CreditsExceeded) line.taken.others) begun
-      (Exceeds (assumption) (with_counts once before) (search (line, takes line.taken)) (ap (with_counts once) is))
+      leaves once is (rw line.taken.others begun)
+      (Exceeds (assumption) (with_counts once before) (search (line, takes line.taken))
+      (ap (with_counts once) is))
   turns_also (BadConnection d before line is) =
-      leaves once (is ∙ ap (λ (p : PortState). failed_port p InvalidConnection) line.taken.others) begun
-      (BadConnection (assumption) (with_counts once before) (search (line, takes line.taken)) (ap (with_counts once) is))
+      leaves once is (rw line.taken.others begun)
+      (BadConnection (assumption) (with_counts once before) (search (line, takes line.taken))
+      (ap (with_counts once) is))
   turns_also (Fetches d line) =
       let more = record once { fetches = k.fetches + 1 } in
-      let same = message_same once (counted s) (message_in s.old.profile line.packet) in
-      leaves more line.others (rw (message_deliveries (counted s) (message_in s.old.profile line.packet)) begun)
+      let m = message_in s.old.profile line.packet in
+      leaves more line.others (rw (message_deliveries (counted s) m) begun)
       (Fetches (assumption) (record {
         packet = line.packet;
         looks = line.looks;
@@ -259,7 +228,7 @@ module _ (k : Counts) (turn : Turn) (s : Step) (begun : nat_lt 0 k.deliveries �
         in_order = line.in_order;
         credit = line.credit;
         sequential = line.sequential;
-        others = ap (with_counts more) line.others ∙ rw same;
+        others = ap (with_counts more) line.others ∙ rw (message_same once (counted s) m);
       }))
   turns_also (Executes d nothing j is line) =
       let more = record once { load = k.load + length s.old.exec.pending } in
@@ -305,17 +274,15 @@ counts_of p = record { turns = p.turns; fetches = p.fetches; deliveries = p.deli
 
 word_deliveries : (p : Phase) (old : PortState) (memory : List ℕ) (word : ℕ)
     → (after_sa_write p old memory word).0.deliveries ≡ old.deliveries
-word_deliveries p old memory word =
-    ap (λ (x : PortState × List ℕ). x.0.deliveries) (words_same (counts_of old) old p memory word)
+word_deliveries p old memory word = grind arith
 
 ip_read_deliveries : (p : Phase) (old : PortState) → (port_after_ip_read p old).deliveries ≡ old.deliveries
-ip_read_deliveries p old = ap (λ (x : PortState). x.deliveries) (ip_read_same (counts_of old) old p)
+ip_read_deliveries p old = grind arith
 
 -- ---- events
 
 module _ (k : Counts) (old : PortState) (begun : nat_lt 0 k.deliveries ≡ nat_lt 0 old.deliveries)
-    (memory : List ℕ)
-    (new : PortState) (memory_after : List ℕ) where
+    (memory : List ℕ) (new : PortState) (memory_after : List ℕ) where
   event : (e : HostEvent) → EventEffect e old memory new memory_after
       → LeadsAlso (λ x. EventEffect e (with_counts k old) memory x memory_after) new
   event WriteIp effect = record {

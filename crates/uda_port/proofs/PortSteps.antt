@@ -1,7 +1,10 @@
 -- The invariant of a port after a change of its phase.
-use Rattle.std.proofs.Common.{◌≡◌, ◌≢◌, ℕ, ◌+◌, ◌*◌, ◌≤◌, ◌<◌, ◌⊎◌, inl, inr, true, false, List, refl, sym, ap, subst, ◌∙◌, arith}
+use Rattle.std.proofs.Common.{◌≡◌, ◌≢◌, ℕ, ◌+◌, ◌*◌, ◌≤◌, ◌<◌, ◌⊎◌, inl, inr, Bool, true, false, List, Option, None, refl, sym, ap, subst, ◌∙◌, arith}
 use Rattle.std.specs.Prelude.{not}
 use Rattle.std.proofs.lemmas.Bool.{and_from, lt-ltb, true≢false}
+use Rattle.uda_packet.specs.declared.command.Command.{Command}
+use Rattle.uda_packet.specs.declared.reply.Reply.{Reply}
+use Rattle.uda_exec.specs.declared.scheduler.Position.{Position}
 use Rattle.uda_packet.specs.declared.guest_end.Identity.{Identity}
 use Rattle.uda_port.specs.declared.interrupt.Interrupts.{Interrupts}
 use Rattle.uda_port.specs.declared.phase.Fatal.{Fatal}
@@ -11,13 +14,13 @@ use Rattle.uda_port.specs.declared.phase.Phase.TheVariants.{Step1, Step2, Step3,
 use Rattle.uda_port.specs.declared.port.Port.TheInside.{Inside}
 use Rattle.uda_port.specs.declared.profile.Profile.{Profile}
 use Rattle.uda_port.specs.declared.profile.Profile.TheVariants.{Strict, Compatible}
-use Rattle.uda_port.specs.Interrupt.{raised_by_step, raised, interrupts_asked}
-use Rattle.uda_port.specs.PortInvariant.{PortInvariant}
+use Rattle.uda_port.specs.Interrupt.{raised_by_step, raised, interrupts_asked, noted}
+use Rattle.uda_port.specs.PortInvariant.{PortInvariant, IsPossible}
 use Rattle.uda_port.specs.Port.{PortState, port_after_ip_read}
-use Rattle.uda_port.specs.Possible.{is_of_turn, has_run, has_rings, is_first_word, has_phase, CanDie, is_step_3, can_interrupt, rings_fit, addresses_by, guest_fits}
+use Rattle.uda_port.specs.Possible.{is_of_turn, has_run, has_rings, is_first_word, has_phase, CanDie, is_step_3, can_interrupt, rings_fit, addresses_by, guest_fits, queue_fits, HasNoWork}
 use Rattle.uda_port.specs.Ring.{RingState}
 use Rattle.uda_port.specs.Startup.{has_bit, refuses_second, refuses_third, asks_test, after_sa_write}
-use Rattle.uda_port.proofs.PossibleLaws.{same_rings, same_guest, by_death, by_step, by_first_word, by_third_word, by_go, go_rings, go_guest, no_rest, rings_set}
+use Rattle.uda_port.proofs.PossibleLaws.{same_rings, same_guest, by_death, by_step, by_first_word, by_third_word, by_go, go_rings, go_guest, no_rest, rings_set, by_indicator, rings_move}
 
 -- the port goes from one phase to another, in which it has the same rings and has run or not as before
 pub record StepsTo (profile : Profile) (phase next : Phase) : Type 0 where
@@ -28,24 +31,11 @@ pub record StepsTo (profile : Profile) (phase next : Phase) : Type 0 where
 pub steps : {S : Type 0} (p : Inside S) (next : Phase) (i : Interrupts) → StepsTo p.profile p.phase next
     → can_interrupt p.profile next i ≡ true → PortInvariant p
     → PortInvariant (record p { phase = next; interrupts = i })
-steps p next i to can is = record {
-  room = is.room;
-  credits = is.credits;
-  conserved = is.conserved;
-  four_units = is.four_units;
-  well_formed = is.well_formed;
-  ordered = is.ordered;
-  begun = is.begun;
-  strict = is.strict;
-  possible = record {
-    phase = to.is_phase;
-    interrupts = can;
-    rings = same_rings p.profile p.phase next p.responses p.commands to.rings to.run is.possible.rings;
-    guest = same_guest p.profile p.phase next p.guest to.run is.possible.guest;
-    queue = is.possible.queue;
-    no_work = λ not_run. is.possible.no_work (sym to.run ∙ not_run);
-  };
-}
+steps p next i to can is = assumption (
+  same_rings p.profile p.phase next p.responses p.commands to.rings to.run is.possible.rings,
+  same_guest p.profile p.phase next p.guest to.run is.possible.guest,
+  λ (not_run : has_run next ≡ false). is.possible.no_work (sym to.run ∙ not_run),
+)
 
 -- ---- death
 
@@ -314,53 +304,30 @@ enters_test p responses commands word step set asks is =
 
 -- ---- a running port
 
-pub polls : {S : Type 0} (p : Inside S) → p.phase ≡ Running → PortInvariant p → PortInvariant (record p { polling = true })
-polls p runs is = record {
-  room = is.room;
-  credits = is.credits;
-  conserved = is.conserved;
-  four_units = is.four_units;
-  well_formed = is.well_formed;
-  ordered = is.ordered;
-  begun = is.begun;
-  strict = is.strict;
-  possible = record {
-    phase = is.possible.phase;
-    interrupts = is.possible.interrupts;
-    rings = is.possible.rings;
-    guest = is.possible.guest;
-    queue = is.possible.queue;
-    no_work = λ not_run. absurd (no_rest p.phase runs not_run);
-  };
+-- A port that goes on running moves the indices of its rings only, and a ring transition may raise a request.
+pub runs_on : {S : Type 0} {p : Inside S} (indicator : Option ℕ) → PortInvariant p → p.phase ≡ Running
+    → (q : Inside S) → q.profile ≡ p.profile → q.phase ≡ p.phase → q.interrupts ≡ noted indicator p.profile p.interrupts
+    → q.responses.base ≡ p.responses.base → q.responses.count ≡ p.responses.count
+    → q.commands.base ≡ p.commands.base → guest_fits p.profile p.phase q.guest ≡ true
+    → queue_fits p.profile q.waiting.items ≡ true → IsPossible q
+runs_on {p = p} indicator is runs q profile phase notes base count other guest queue = record {
+  phase = rw (profile, phase) is.possible.phase;
+  interrupts = rw (profile, phase, notes) (by_indicator _ _ indicator _ runs is.possible.interrupts);
+  rings = rw (profile, phase) (rings_move p.profile _ p.responses p.commands q.responses q.commands runs base count other is.possible.rings);
+  guest = rw (profile, phase) guest;
+  queue = rw profile queue;
+  no_work = λ rests. absurd (no_rest _ (phase ∙ runs) rests);
 }
 
+pub polls : {S : Type 0} (p : Inside S) → p.phase ≡ Running → PortInvariant p → PortInvariant (record p { polling = true })
+polls p runs is = search (runs_on None is runs)
+
+unpolled : {S : Type 0} (p : Inside S) → IsPossible p → has_run p.phase ≡ false
+    → HasNoWork false p.deliveries p.exec.pending p.waiting.items p.exec.position
+unpolled p is rests = let none = is.no_work rests in search
+
 pub stops_polling : {S : Type 0} (p : Inside S) → PortInvariant p → PortInvariant (record p { polling = false })
-stops_polling p is = record {
-  room = is.room;
-  credits = is.credits;
-  conserved = is.conserved;
-  four_units = is.four_units;
-  well_formed = is.well_formed;
-  ordered = is.ordered;
-  begun = is.begun;
-  strict = is.strict;
-  possible = record {
-    phase = is.possible.phase;
-    interrupts = is.possible.interrupts;
-    rings = is.possible.rings;
-    guest = is.possible.guest;
-    queue = is.possible.queue;
-    no_work = λ not_run.
-        let none = is.possible.no_work not_run in
-        record {
-          not_polling = refl;
-          none_delivered = none.none_delivered;
-          none_pending = none.none_pending;
-          none_waiting = none.none_waiting;
-          at_first = none.at_first;
-        };
-  };
-}
+stops_polling p is = search (unpolled p is.possible)
 
 has_running : (profile : Profile) → has_phase profile Running ≡ true
 has_running Strict = refl

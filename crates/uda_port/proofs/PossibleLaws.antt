@@ -340,17 +340,11 @@ first_position p is = position_of p.unit p.lbn is
 pub no_rest : (phase : Phase) → phase ≡ Running → has_run phase ≡ false → ⊥
 no_rest phase runs is = true≢false (sym (ap has_run runs) ∙ is)
 
-fits_running : (identity : Identity) (phase : Phase) (guest : Guest) → phase ≡ Running
-    → guest_fits (Compatible identity) phase guest ≡ true
-fits_running identity phase guest runs =
-    subst (λ (p : Phase). guest_fits (Compatible identity) p guest ≡ true) (sym runs) refl
-
 pub flags_fit : (profile : Profile) (phase : Phase) (p : Fetched) (m : Result GuestCommand Reply) (guest : Guest)
     → phase ≡ Running → guest_fits profile phase guest ≡ true
     → guest_fits profile phase (flags_kept profile p m guest) ≡ true
 flags_fit Strict phase p m guest runs is = is
-flags_fit (Compatible identity) phase p m guest runs is =
-    fits_running identity phase (flags_kept (Compatible identity) p m guest) runs
+flags_fit (Compatible identity) phase p m guest runs is = rw runs refl
 
 unset_by : (runs : Bool) (guest : Guest) (drive : ℕ) → (runs || ((guest.flags == 0) && none_due guest.attentions)) ≡ true
     → (runs || ((guest.flags == 0) && none_due (set guest.attentions drive false))) ≡ true

@@ -193,11 +193,11 @@ settings_served Step1 i is = silent_served i.enabled i.requested i.vector is
 settings_served (Wrap word) i is = silent_served i.enabled i.requested i.vector is
 settings_served _ i is = is
 
-pub by_service : (profile : Profile) (phase : Phase) (i : Interrupts) → can_interrupt profile phase i ≡ true
-    → can_interrupt profile phase (served i) ≡ true
-by_service Strict phase i is = silent_served i.enabled i.requested i.vector is
-by_service (Compatible identity) phase i is =
-    and_from _ _ (settings_served phase i (and_parts (settings_fit phase i) _ is).0) refl
+pub by_service : (profile : Profile) (phase : Phase) (old new : Interrupts) → new ≡ served old
+    → can_interrupt profile phase old ≡ true → can_interrupt profile phase new ≡ true
+by_service Strict phase old new now is = rw now (silent_served old.enabled old.requested old.vector is)
+by_service (Compatible identity) phase old new now is =
+    rw now (and_from _ _ (settings_served phase old (and_parts (settings_fit phase old) _ is).0) refl)
 
 -- the vector of a request that can be pending
 is_address : (v : ℕ) → is_vector v ≡ true → 0 < v → IsVectorAddress v

@@ -1,5 +1,5 @@
 -- What keeps a port's state possible.
-use Rattle.std.proofs.Common.{◌≡◌, ℕ, ◌+◌, ◌*◌, ◌%◌, ◌<◌, ◌≤◌, ◌==◌, zero, suc, Bool, true, false, ◌&&◌, ◌||◌, List, [], ◌∷◌, ◌++◌, refl, sym, ap, subst, ◌∙◌, arith}
+use Rattle.std.proofs.Common.{◌≡◌, ℕ, ◌+◌, ◌*◌, ◌%◌, ◌<◌, ◌≤◌, ◌==◌, zero, suc, Bool, true, false, ◌&&◌, ◌||◌, List, [], ◌∷◌, ◌++◌, refl, sym, ap, subst, ◌∙◌, add-one, arith}
 use Rattle.std.specs.Prelude.{if◌then◌else◌, not, nat_lt, nat_le, set, drop, get_or, length, Option, Some, None, IfSome, is_some, option_map, Result, Ok, Err}
 use Rattle.std.proofs.lemmas.Bool.{and_parts, and_from, or_right, le-leb, leb-true, ltb-true, eqb-true, eq-eqb, true≢false}
 use Rattle.uda_exec.specs.Saved.{same_flag}
@@ -42,32 +42,29 @@ use Rattle.uda_port.specs.Startup.{has_bit}
 
 pub starts_phase : (profile : Profile) → has_phase profile Step1 ≡ true
 starts_phase Strict = refl
-starts_phase (Compatible identity) = refl
+starts_phase _ = refl
 
 pub starts_interrupts : (profile : Profile) → can_interrupt profile Step1 NO_INTERRUPTS ≡ true
 starts_interrupts Strict = refl
-starts_interrupts (Compatible identity) = refl
-
-no_guest : (profile : Profile) (phase : Phase) (rest : Bool) → rest ≡ true → (is_guest_running profile phase || rest) ≡ true
-no_guest profile phase rest is = or_right (is_guest_running profile phase) rest is
+starts_interrupts _ = refl
 
 pub starts_guest : (profile : Profile) → guest_fits profile Step1 GUEST_AT_FIRST ≡ true
-starts_guest profile = no_guest profile Step1 _ refl
+starts_guest profile = or_right (is_guest_running profile Step1) _ refl
 
 pub restarts_guest : (profile : Profile) (guest : Guest) → guest_fits profile Step1 (guest_restarted guest) ≡ true
-restarts_guest profile guest = no_guest profile Step1 _ refl
+restarts_guest profile guest = or_right (is_guest_running profile Step1) _ refl
 
 pub starts_queue : (profile : Profile) → queue_fits profile [] ≡ true
 starts_queue Strict = refl
-starts_queue (Compatible identity) = refl
+starts_queue _ = refl
 
 -- ---- interrupts
 
 -- raised requests of silent settings, and of others
 silent_raised : (e q : Bool) (v : ℕ) → (not e && ((v == 0) && not q)) ≡ true
     → (not e && ((v == 0) && not (q || (e && nat_lt 0 v)))) ≡ true
-silent_raised true q v is = absurd (true≢false (sym is))
-silent_raised false true v is = absurd (true≢false (sym (and_parts (v == 0) false is).1))
+silent_raised true q v is = absurd (cc)
+silent_raised false true v is = is
 silent_raised false false v is = is
 
 may_by_step : (e q v past : Bool) → (not q || (v && (e || past))) ≡ true
@@ -102,7 +99,7 @@ settings_by_step _ e q v is = is
 pub by_step : (profile : Profile) (phase : Phase) (i : Interrupts) → can_interrupt profile phase i ≡ true
     → can_interrupt profile phase (raised_by_step profile i) ≡ true
 by_step Strict phase i is = is
-by_step (Compatible identity) phase i is =
+by_step _ phase i is =
     let parts = and_parts (settings_fit phase i) (not i.requested || may_request phase i) is in
     and_from _ _ (settings_by_step phase i.enabled i.requested i.vector parts.0)
     (may_by_step i.enabled i.requested (has_vector i) (is_past_steps phase) parts.1)
@@ -111,12 +108,9 @@ by_step (Compatible identity) phase i is =
 pub by_event : (profile : Profile) (phase : Phase) (i : Interrupts) → phase ≡ Running
     → can_interrupt profile phase i ≡ true → can_interrupt profile phase (raised profile i) ≡ true
 by_event Strict phase i runs is = is
-by_event (Compatible identity) phase i runs is =
-    let is-now : can_interrupt (Compatible identity) Running i ≡ true =
-    subst (λ (p : Phase). can_interrupt (Compatible identity) p i ≡ true) runs is in
-    let parts = and_parts (is_vector i.vector) (not i.requested || may_request Running i) is-now in
-    subst (λ (p : Phase). can_interrupt (Compatible identity) p (raised (Compatible identity) i) ≡ true) (sym runs)
-    (and_from _ _ parts.0 (may_by_event i.enabled i.requested (has_vector i) parts.1))
+by_event _ phase i runs is =
+    let parts = and_parts (is_vector i.vector) (not i.requested || may_request Running i) (rw runs at is) in
+    rw runs (and_from _ _ parts.0 (may_by_event i.enabled i.requested (has_vector i) parts.1))
 
 pub by_indicator : (profile : Profile) (phase : Phase) (indicator : Option ℕ) (i : Interrupts) → phase ≡ Running
     → can_interrupt profile phase i ≡ true → can_interrupt profile phase (noted indicator profile i) ≡ true
@@ -127,7 +121,7 @@ by_indicator profile phase (Some at) i runs is = by_event profile phase i runs i
 silent_vector : (e q : Bool) (v : ℕ) → (not e && ((v == 0) && not q)) ≡ true → is_vector v ≡ true
 silent_vector e q v is =
     let none : v ≡ 0 = eqb-true _ _ (and_parts (v == 0) (not q) (and_parts (not e) _ is).1).0 in
-    subst (λ (n : ℕ). is_vector n ≡ true) (sym none) refl
+    rw none refl
 
 quadruple : (k v : ℕ) → k < 128 → v ≡ 4 * k → is_vector v ≡ true
 quadruple k v few is =
@@ -149,7 +143,7 @@ has_vector_form _ i is = is
 pub by_death : (profile : Profile) (phase : Phase) (cause : Fatal) (i : Interrupts)
     → can_interrupt profile phase i ≡ true → can_interrupt profile (Dead cause) (raised profile i) ≡ true
 by_death Strict phase cause i is = is
-by_death (Compatible identity) phase cause i is =
+by_death _ phase cause i is =
     let parts = and_parts (settings_fit phase i) (not i.requested || may_request phase i) is in
     let later = may_later i.enabled i.requested (has_vector i) (is_past_steps phase) parts.1 in
     and_from _ _ (has_vector_form phase i parts.0) (may_by_event i.enabled i.requested (has_vector i) later)
@@ -157,26 +151,26 @@ by_death (Compatible identity) phase cause i is =
 -- the first word has asked for interrupts
 same : (flag : Bool) → same_flag flag flag ≡ true
 same true = refl
-same false = refl
+same _ = refl
 
 pub by_first_word : (profile : Profile) (first : ℕ) (i : Interrupts) → can_interrupt profile Step1 i ≡ true
     → can_interrupt profile (Step2 first) (interrupts_asked profile i first) ≡ true
 by_first_word Strict first i is = is
-by_first_word (Compatible identity) first i is =
+by_first_word _ first i is =
     and_from _ _ (and_from _ _ (same (has_bit first 7)) (eq-eqb _ _ refl)) refl
 
 -- the third word ends the steps that have it
 pub by_third_word : (profile : Profile) (first second : ℕ) (i : Interrupts)
     → can_interrupt profile (Step3 first second) i ≡ true → can_interrupt profile Step4 i ≡ true
 by_third_word Strict first second i is = is
-by_third_word (Compatible identity) first second i is =
+by_third_word _ first second i is =
     let parts = and_parts (are_asked_by first i) (not i.requested || may_request Step4 i) is in
     and_from _ _ (has_vector_form (Step3 first second) i parts.0) parts.1
 
 pub by_go : (profile : Profile) (i : Interrupts) → can_interrupt profile Step4 i ≡ true
     → can_interrupt profile Running i ≡ true
 by_go Strict i is = is
-by_go (Compatible identity) i is =
+by_go _ i is =
     let parts = and_parts (is_vector i.vector) (not i.requested || may_request Step4 i) is in
     and_from _ _ parts.0 (may_later i.enabled i.requested (has_vector i) false parts.1)
 
@@ -196,7 +190,7 @@ settings_served _ i is = is
 pub by_service : (profile : Profile) (phase : Phase) (old new : Interrupts) → new ≡ served old
     → can_interrupt profile phase old ≡ true → can_interrupt profile phase new ≡ true
 by_service Strict phase old new now is = rw now (silent_served old.enabled old.requested old.vector is)
-by_service (Compatible identity) phase old new now is =
+by_service _ phase old new now is =
     rw now (and_from _ _ (settings_served phase old (and_parts (settings_fit phase old) _ is).0) refl)
 
 -- the vector of a request that can be pending
@@ -209,14 +203,14 @@ is_address v is some =
 
 positive_by : (q v past : Bool) → q ≡ true → (not q || (v && past)) ≡ true → v ≡ true
 positive_by true v past is may = (and_parts v past may).0
-positive_by false v past is may = absurd (true≢false (sym is))
+positive_by false v past is may = absurd (cc)
 
 pub requested_address : (profile : Profile) (phase : Phase) (i : Interrupts) → can_interrupt profile phase i ≡ true
     → i.requested ≡ true → IsVectorAddress i.vector
 requested_address Strict phase i is requested =
     let none = (and_parts (i.vector == 0) (not i.requested) (and_parts (not i.enabled) _ is).1).1 in
     absurd (true≢false (sym none ∙ ap not requested))
-requested_address (Compatible identity) phase i is requested =
+requested_address _ phase i is requested =
     let parts = and_parts (settings_fit phase i) (not i.requested || may_request phase i) is in
     is_address i.vector (has_vector_form phase i parts.0)
     (ltb-true _ _ (positive_by i.requested (has_vector i) (i.enabled || is_past_steps phase) requested parts.1))
@@ -237,14 +231,10 @@ pub same_rings : (profile : Profile) (phase next : Phase) (responses commands : 
     → rings_fit profile phase responses commands ≡ true → rings_fit profile next responses commands ≡ true
 same_rings profile phase next responses commands rings run is = rw (rings, run) is
 
-same_guest_by : (profile : Profile) (phase next : Phase) (rest : Bool) → has_run next ≡ has_run phase
-    → (is_guest_running profile phase || rest) ≡ true → (is_guest_running profile next || rest) ≡ true
-same_guest_by Strict phase next rest run is = is
-same_guest_by (Compatible identity) phase next rest run is = rw run is
-
 pub same_guest : (profile : Profile) (phase next : Phase) (guest : Guest) → has_run next ≡ has_run phase
     → guest_fits profile phase guest ≡ true → guest_fits profile next guest ≡ true
-same_guest profile phase next guest run is = same_guest_by profile phase next _ run is
+same_guest Strict phase next guest run is = is
+same_guest _ phase next guest run is = rw run is
 
 -- the go bit starts the port
 pub go_rings : (profile : Profile) (responses commands : RingState)
@@ -256,19 +246,17 @@ go_rings profile responses commands is =
 pub go_guest : (profile : Profile) (guest : Guest) → guest_fits profile Step4 guest ≡ true
     → guest_fits profile Running guest ≡ true
 go_guest Strict guest is = is
-go_guest (Compatible identity) guest is = refl
+go_guest _ guest is = refl
 
 -- the rings of a running port move their indices only
 pub rings_move : (profile : Profile) (phase : Phase) (a b c d : RingState) → phase ≡ Running → c.base ≡ a.base
     → c.count ≡ a.count → d.base ≡ b.base → rings_fit profile phase a b ≡ true → rings_fit profile phase c d ≡ true
 rings_move profile phase a b c d runs base count other is =
-    let now : rings_fit profile Running a b ≡ true = subst (λ (p : Phase). rings_fit profile p a b ≡ true) runs is in
-    let parts = and_parts (is_base_by profile a.base) (is_next_to a b && true) now in
+    let parts = and_parts (is_base_by profile a.base) (is_next_to a b && true) (rw runs at is) in
     let next : b.base ≡ a.base + 4 * a.count = eqb-true _ _ (and_parts (is_next_to a b) true parts.1).0 in
-    let moved : d.base ≡ c.base + 4 * c.count = other ∙ next ∙ sym (ap (λ (x : ℕ). x + 4 * c.count) base ∙ ap (λ (n : ℕ). a.base + 4 * n) count) in
-    let at : is_base_by profile c.base ≡ true = subst (λ (x : ℕ). is_base_by profile x ≡ true) (sym base) parts.0 in
-    subst (λ (p : Phase). rings_fit profile p c d ≡ true) (sym runs)
-    (and_from _ _ at (and_from _ _ (eq-eqb _ _ moved) refl))
+    let moved : d.base ≡ c.base + 4 * c.count = rw (base, count) (other ∙ next) in
+    let at : is_base_by profile c.base ≡ true = rw base parts.0 in
+    rw runs (and_from _ _ at (and_from _ _ (eq-eqb _ _ moved) refl))
 
 -- the third word sets the rings
 pub rings_set : (profile : Profile) (responses commands : RingState) → 4 ≤ responses.base
@@ -309,31 +297,22 @@ pub passes_basic : (xs : List Reply) (i : ℕ) (default : Reply) → i < length 
     → is_basic_body (get_or xs i default).body ≡ true → are_basic (drop i xs) ≡ are_basic xs
     → are_basic (drop (i + 1) xs) ≡ are_basic xs
 passes_basic xs i default less basic so_far =
-    let next : i + 1 ≡ suc i = omega arith in
-    let rest = ap (λ (b : Bool). b && are_basic (drop (suc i) xs)) basic in
-    ap (λ (k : ℕ). are_basic (drop k xs)) next ∙ sym (basic_from xs i default less ∙ rest) ∙ so_far
+    sym (basic_from xs i default less ∙ rw (basic, add-one) refl) ∙ so_far
 
 pub fails_basic : (xs : List Reply) (i : ℕ) (default : Reply) → i < length xs
     → is_basic_body (get_or xs i default).body ≡ false → are_basic (drop i xs) ≡ are_basic xs
     → false ≡ are_basic xs
-fails_basic xs i default less other so_far =
-    let rest = ap (λ (b : Bool). b && are_basic (drop (suc i) xs)) other in
-    sym (basic_from xs i default less ∙ rest) ∙ so_far
+fails_basic xs i default less other so_far = sym (basic_from xs i default less ∙ rw other refl) ∙ so_far
 
 -- ---- the first position
 
-abbrev position_at : ℕ → ℕ → Position
-position_at unit lbn = record { unit = unit; lbn = lbn }
-
-position_of : (unit lbn : ℕ) → ((unit == 0) && (lbn == 0)) ≡ true → position_at unit lbn ≡ FIRST_POSITION
-position_of unit lbn is =
-    let parts = and_parts (unit == 0) (lbn == 0) is in
-    let u : unit ≡ 0 = eqb-true _ _ parts.0 in
-    let l : lbn ≡ 0 = eqb-true _ _ parts.1 in
-    ap (λ (n : ℕ). position_at n lbn) u ∙ ap (λ (n : ℕ). position_at 0 n) l
-
 pub first_position : (p : Position) → is_first_position p ≡ true → p ≡ FIRST_POSITION
-first_position p is = position_of p.unit p.lbn is
+first_position p is =
+    let parts = and_parts (p.unit == 0) (p.lbn == 0) is in
+    let unit : p.unit ≡ 0 = eqb-true _ _ parts.0 in
+    let lbn : p.lbn ≡ 0 = eqb-true _ _ parts.1 in
+    let at : ◌≡◌ {A = Position} (record { unit = p.unit; lbn = p.lbn }) FIRST_POSITION = rw (unit, lbn) refl in
+    at
 
 -- ---- a running port
 
@@ -344,19 +323,18 @@ pub flags_fit : (profile : Profile) (phase : Phase) (p : Fetched) (m : Result Gu
     → phase ≡ Running → guest_fits profile phase guest ≡ true
     → guest_fits profile phase (flags_kept profile p m guest) ≡ true
 flags_fit Strict phase p m guest runs is = is
-flags_fit (Compatible identity) phase p m guest runs is = rw runs refl
+flags_fit _ phase p m guest runs is = rw runs refl
 
 unset_by : (runs : Bool) (guest : Guest) (drive : ℕ) → (runs || ((guest.flags == 0) && none_due guest.attentions)) ≡ true
     → (runs || ((guest.flags == 0) && none_due (set guest.attentions drive false))) ≡ true
 unset_by true guest drive is = refl
-unset_by false guest drive is =
+unset_by _ guest drive is =
     let parts = and_parts (guest.flags == 0) (none_due guest.attentions) is in
     and_from _ _ parts.0 (none_due_without guest.attentions drive parts.1)
 
 unset_fits : (profile : Profile) (phase : Phase) (guest : Guest) (drive : ℕ) → guest_fits profile phase guest ≡ true
     → guest_fits profile phase (attention_set guest drive false) ≡ true
-unset_fits Strict phase guest drive is = unset_by false guest drive is
-unset_fits (Compatible identity) phase guest drive is = unset_by (has_run phase) guest drive is
+unset_fits profile phase guest drive is = unset_by (is_guest_running profile phase) guest drive is
 
 after_by : (online : Bool) (profile : Profile) (phase : Phase) (guest : Guest) (drive : ℕ)
     → guest_fits profile phase guest ≡ true
@@ -375,16 +353,7 @@ drive_by : (there : Bool) (profile : Profile) (phase : Phase) (guest : Guest) (d
 drive_by false profile phase guest drive is = unset_fits profile phase guest drive is
 drive_by true Strict phase guest drive is = unset_fits Strict phase guest drive is
 drive_by true (Compatible identity) Running guest drive is = refl
-drive_by true (Compatible identity) Step1 guest drive is = unset_fits (Compatible identity) Step1 guest drive is
-drive_by true (Compatible identity) (Step2 first) guest drive is = unset_fits (Compatible identity) (Step2 first) guest drive is
-drive_by true (Compatible identity) (Step3 first second) guest drive is =
-    unset_fits (Compatible identity) (Step3 first second) guest drive is
-drive_by true (Compatible identity) (Wrap word) guest drive is = unset_fits (Compatible identity) (Wrap word) guest drive is
-drive_by true (Compatible identity) PurgeTest guest drive is = unset_fits (Compatible identity) PurgeTest guest drive is
-drive_by true (Compatible identity) PollTest guest drive is = unset_fits (Compatible identity) PollTest guest drive is
-drive_by true (Compatible identity) Step4 guest drive is = unset_fits (Compatible identity) Step4 guest drive is
-drive_by true (Compatible identity) (Dead cause) guest drive is =
-    unset_fits (Compatible identity) (Dead cause) guest drive is
+drive_by true (Compatible identity) phase guest drive is = unset_fits (Compatible identity) phase guest drive is
 
 pub drive_fits : (profile : Profile) (phase : Phase) (guest : Guest) (drive : ℕ) (there : Bool)
     → guest_fits profile phase guest ≡ true
@@ -400,27 +369,27 @@ unset_by_set profile phase old new drive set is = rw set (unset_fits profile pha
 pub queue_more : (profile : Profile) (old : List Reply) (r : Reply) → (profile ≡ Strict → is_basic_body r.body ≡ true)
     → queue_fits profile old ≡ true → queue_fits profile (old ++ r ∷ []) ≡ true
 queue_more Strict old r basic is = are_basic_more old r is (basic refl)
-queue_more (Compatible identity) old r basic is = refl
+queue_more _ old r basic is = refl
 
 pub queue_answered : (profile : Profile) (old : List Reply) (r : Reply) (exec : ExecState)
     → (profile ≡ Strict → is_basic_body r.body ≡ true) → queue_fits profile old ≡ true
     → queue_fits profile (old ++ replies_at_once profile r exec) ≡ true
 queue_answered Strict old r exec basic is = are_basic_more old r is (basic refl)
-queue_answered (Compatible identity) old r exec basic is = refl
+queue_answered _ old r exec basic is = refl
 
 less_by : (profile : Profile) (first : Reply) (rest : List Reply) → queue_fits profile (first ∷ rest) ≡ true
     → queue_fits profile rest ≡ true
 less_by Strict first rest is = (and_parts (is_basic_body first.body) (are_basic rest) is).1
-less_by (Compatible identity) first rest is = refl
+less_by _ first rest is = refl
 
 pub queue_less : (profile : Profile) (old : List Reply) (first : Reply) (rest : List Reply) → old ≡ first ∷ rest
     → queue_fits profile old ≡ true → queue_fits profile rest ≡ true
 queue_less profile old first rest are is =
-    less_by profile first rest (subst (λ (xs : List Reply). queue_fits profile xs ≡ true) are is)
+    less_by profile first rest (rw are at is)
 
 -- the end message of an invalid command
 basic_of : (e : End) (r : Reply) → basic_reply e ≡ r → is_basic_body r.body ≡ true
-basic_of e r is = subst (λ (x : Reply). is_basic_body x.body ≡ true) is refl
+basic_of e r is = rw (← is) refl
 
 err_of : (a b : Reply) → ◌≡◌ {A = Result GuestCommand Reply} (Err a) (Err b) → a ≡ b
 err_of a b is = cc
@@ -435,7 +404,7 @@ pub strict_refusal : (profile : Profile) (p : Fetched) (r : Reply) → message_i
     → profile ≡ Strict → is_basic_body r.body ≡ true
 strict_refusal Strict p r is strict =
     bad_by (p.words.0 == 48) (read_command p.text) (invalid_length_end p.text) r is
-strict_refusal (Compatible identity) p r is strict = absurd (cc)
+strict_refusal _ p r is strict = absurd (cc)
 
 -- the end message of an executed command
 pub strict_outcome : (profile : Profile) (j : ℕ) (old : ExecState) (memory : List ℕ) (r : Reply) (new : ExecState)
@@ -450,17 +419,15 @@ strict_outcome profile j old memory r new memory_after none it strict =
 pub notice_text : (identity : Identity) (guest : Guest) (units : Units) (drive : ℕ) (unit : UnitReport)
     → first_due guest.attentions ≡ Some drive → unit_report guest units drive ≡ Some unit
     → attention_by (Compatible identity) guest units ≡ Some (available_text identity drive unit)
-notice_text identity guest units drive unit due report =
-    ap (attention_of identity guest units) due ∙ ap (option_map (available_text identity drive)) report
+notice_text identity guest units drive unit due report = rw (due, report) refl
 
 pub no_notice : (identity : Identity) (guest : Guest) (units : Units) (drive : ℕ)
     → first_due guest.attentions ≡ Some drive → unit_report guest units drive ≡ None
     → attention_by (Compatible identity) guest units ≡ None
-no_notice identity guest units drive due report =
-    ap (attention_of identity guest units) due ∙ ap (option_map (available_text identity drive)) report
+no_notice identity guest units drive due report = rw (due, report) refl
 
 -- ---- options
 
 pub none_of : {A : Type 0} (o : Option A) → is_some o ≡ false → o ≡ None
 none_of None is = refl
-none_of (Some x) is = absurd (true≢false is)
+none_of (Some x) is = absurd (cc)

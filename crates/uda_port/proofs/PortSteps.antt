@@ -1,7 +1,7 @@
 -- The invariant of a port after a change of its phase.
 use Rattle.std.proofs.Common.{◌≡◌, ◌≢◌, ℕ, ◌+◌, ◌*◌, ◌≤◌, ◌<◌, ◌⊎◌, inl, inr, Bool, true, false, List, Option, None, refl, sym, ap, subst, ◌∙◌, arith}
 use Rattle.std.specs.Prelude.{not}
-use Rattle.std.proofs.lemmas.Bool.{and_from, lt-ltb, true≢false}
+use Rattle.std.proofs.lemmas.Bool.{and_from, eq-eqb, le-leb, lt-ltb, true≢false}
 use Rattle.uda_packet.specs.declared.command.Command.{Command}
 use Rattle.uda_packet.specs.declared.reply.Reply.{Reply}
 use Rattle.uda_exec.specs.declared.scheduler.Position.{Position}
@@ -20,7 +20,7 @@ use Rattle.uda_port.specs.Port.{PortState, port_after_ip_read}
 use Rattle.uda_port.specs.Possible.{is_of_turn, has_run, has_rings, is_first_word, has_phase, CanDie, is_step_3, is_past_steps, settings_fit, is_strict_phase, is_guest_phase, can_interrupt, rings_fit, addresses_by, guest_fits, queue_fits, HasNoWork}
 use Rattle.uda_port.specs.Ring.{RingState}
 use Rattle.uda_port.specs.Startup.{has_bit, refuses_second, refuses_third, asks_test, after_sa_write}
-use Rattle.uda_port.proofs.PossibleLaws.{same_rings, same_guest, by_death, by_step, by_first_word, by_third_word, by_go, go_rings, go_guest, no_rest, rings_set, by_indicator, rings_move}
+use Rattle.uda_port.proofs.PossibleLaws.{same_rings, same_guest, by_death, by_step, by_first_word, by_third_word, by_go, go_rings, go_guest, no_rest, by_indicator, rings_move}
 
 -- both profiles have the phase
 in_both : (profile : Profile) (phase : Phase) → is_strict_phase phase ≡ true → is_guest_phase phase ≡ true
@@ -197,7 +197,8 @@ sets_rings p next i responses commands step set to fit is =
 set_fit : (profile : Profile) (responses commands : RingState) → AreSet profile responses commands
     → rings_fit profile Step4 responses commands ≡ true
 set_fit profile responses commands set =
-    rings_set profile responses commands set.above (lt-ltb _ _ set.within) set.next set.first set.second
+    and_from _ _ (and_from _ _ (le-leb _ _ set.above) (lt-ltb _ _ set.within))
+    (and_from _ _ (eq-eqb _ _ set.next) (and_from _ _ (eq-eqb _ _ set.first) (eq-eqb _ _ set.second)))
 
 pub enters_step_4 : {S : Type 0} (p : Inside S) (responses commands : RingState) → is_step_3 p.phase ≡ true
     → AreSet p.profile responses commands → PortInvariant p

@@ -34,7 +34,7 @@ use Rattle.uda_port.specs.declared.profile.Profile.{Profile}
 use Rattle.uda_port.specs.declared.profile.Profile.TheVariants.{Strict, Compatible}
 use Rattle.uda_port.specs.Guest.{GUEST_AT_FIRST, guest_restarted, attention_set, guest_after, is_online_now, first_due}
 use Rattle.uda_port.specs.Interrupt.{NO_INTERRUPTS, interrupts_asked, has_vector, raised, raised_by_step, noted, served, vector_of, IsVectorAddress}
-use Rattle.uda_port.specs.Possible.{has_run, has_rings, has_phase, is_vector, are_asked_by, settings_fit, is_past_steps, may_request, can_interrupt, is_base_by, is_next_to, are_unused, rings_fit, addresses_by, none_due, is_guest_running, guest_fits, is_basic_body, are_basic, queue_fits, is_first_position}
+use Rattle.uda_port.specs.Possible.{has_run, has_rings, has_phase, is_vector, are_asked_by, settings_fit, is_past_steps, may_request, can_interrupt, is_silent, is_base_by, is_next_to, are_unused, rings_fit, addresses_by, none_due, is_guest_running, guest_fits, is_basic_body, are_basic, queue_fits, is_first_position}
 use Rattle.uda_port.specs.Ring.{RingState}
 use Rattle.uda_port.specs.Startup.{has_bit}
 
@@ -71,8 +71,7 @@ may_by_step : (e q v past : Bool) → (not q || (v && (e || past))) ≡ true
     → (not (q || (e && v)) || (v && (e || past))) ≡ true
 may_by_step e true v past is = is
 may_by_step true false true past is = refl
-may_by_step true false false past is = refl
-may_by_step false false v past is = refl
+may_by_step _ _ _ past is = refl
 
 may_by_event : (e q v : Bool) → (not q || (v && (e || true))) ≡ true
     → (not (q || v) || (v && (e || true))) ≡ true
@@ -83,10 +82,9 @@ may_by_event e false false is = refl
 
 -- a request that could be pending can still be when more can have raised it
 may_later : (e q v past : Bool) → (not q || (v && (e || past))) ≡ true → (not q || (v && (e || true))) ≡ true
-may_later e false v past is = refl
 may_later e true false past is = is
 may_later true true true past is = refl
-may_later false true true past is = refl
+may_later _ _ _ past is = refl
 
 settings_by_step : (phase : Phase) (e q : Bool) (v : ℕ)
     → settings_fit phase (record { enabled = e; vector = v; requested = q }) ≡ true
@@ -100,43 +98,35 @@ pub by_step : (profile : Profile) (phase : Phase) (i : Interrupts) → can_inter
     → can_interrupt profile phase (raised_by_step profile i) ≡ true
 by_step Strict phase i is = is
 by_step _ phase i is =
-    let parts = and_parts (settings_fit phase i) (not i.requested || may_request phase i) is in
+    let parts = and_parts (settings_fit phase i) _ is in
     and_from _ _ (settings_by_step phase i.enabled i.requested i.vector parts.0)
     (may_by_step i.enabled i.requested (has_vector i) (is_past_steps phase) parts.1)
 
 -- a running port may raise one, and so may a port that dies
-pub by_event : (profile : Profile) (phase : Phase) (i : Interrupts) → phase ≡ Running
-    → can_interrupt profile phase i ≡ true → can_interrupt profile phase (raised profile i) ≡ true
-by_event Strict phase i runs is = is
-by_event _ phase i runs is =
-    let parts = and_parts (is_vector i.vector) (not i.requested || may_request Running i) (rw runs at is) in
-    rw runs (and_from _ _ parts.0 (may_by_event i.enabled i.requested (has_vector i) parts.1))
-
 pub by_indicator : (profile : Profile) (phase : Phase) (indicator : Option ℕ) (i : Interrupts) → phase ≡ Running
     → can_interrupt profile phase i ≡ true → can_interrupt profile phase (noted indicator profile i) ≡ true
 by_indicator profile phase None i runs is = is
-by_indicator profile phase (Some at) i runs is = by_event profile phase i runs is
+by_indicator Strict phase (Some at) i runs is = is
+by_indicator _ phase (Some at) i runs is =
+    let parts = and_parts (is_vector i.vector) _ (rw runs at is) in
+    rw runs (and_from _ _ parts.0 (may_by_event i.enabled i.requested (has_vector i) parts.1))
 
 -- the vector of any settings
-silent_vector : (e q : Bool) (v : ℕ) → (not e && ((v == 0) && not q)) ≡ true → is_vector v ≡ true
-silent_vector e q v is =
-    let none : v ≡ 0 = eqb-true _ _ (and_parts (v == 0) (not q) (and_parts (not e) _ is).1).0 in
+silent_vector : (i : Interrupts) → is_silent i ≡ true → is_vector i.vector ≡ true
+silent_vector i is =
+    let none : i.vector ≡ 0 = eqb-true _ _ (and_parts (i.vector == 0) _ (and_parts (not i.enabled) _ is).1).0 in
     rw none refl
 
-quadruple : (k v : ℕ) → k < 128 → v ≡ 4 * k → is_vector v ≡ true
-quadruple k v few is =
-    and_from (v % 4 == 0) (nat_le v 0x1FC) (eq-eqb (v % 4) 0 (omega (arith, is))) (le-leb v 0x1FC (omega (arith, is, few)))
+asked_vector : (first : ℕ) (i : Interrupts) → are_asked_by first i ≡ true → is_vector i.vector ≡ true
+asked_vector first i is =
+    let four : i.vector ≡ 4 * (first % 0x80) = eqb-true _ _ (and_parts (same_flag i.enabled (has_bit first 7)) _ is).1 in
+    and_from (i.vector % 4 == 0) (nat_le i.vector 0x1FC) (eq-eqb _ _ (omega arith)) (le-leb _ _ (omega arith))
 
-asked_vector : (first : ℕ) (e q : Bool) (v : ℕ)
-    → (same_flag e (has_bit first 7) && (v == 4 * (first % 0x80))) ≡ true → is_vector v ≡ true
-asked_vector first e q v is =
-    quadruple (first % 0x80) v (omega arith) (eqb-true _ _ (and_parts (same_flag e (has_bit first 7)) _ is).1)
-
-pub has_vector_form : (phase : Phase) (i : Interrupts) → settings_fit phase i ≡ true → is_vector i.vector ≡ true
-has_vector_form Step1 i is = silent_vector i.enabled i.requested i.vector is
-has_vector_form (Wrap word) i is = silent_vector i.enabled i.requested i.vector is
-has_vector_form (Step2 first) i is = asked_vector first i.enabled i.requested i.vector is
-has_vector_form (Step3 first second) i is = asked_vector first i.enabled i.requested i.vector is
+has_vector_form : (phase : Phase) (i : Interrupts) → settings_fit phase i ≡ true → is_vector i.vector ≡ true
+has_vector_form Step1 i is = silent_vector i is
+has_vector_form (Wrap word) i is = silent_vector i is
+has_vector_form (Step2 first) i is = asked_vector first i is
+has_vector_form (Step3 first second) i is = asked_vector first i is
 has_vector_form _ i is = is
 
 -- a port that dies
@@ -144,7 +134,7 @@ pub by_death : (profile : Profile) (phase : Phase) (cause : Fatal) (i : Interrup
     → can_interrupt profile phase i ≡ true → can_interrupt profile (Dead cause) (raised profile i) ≡ true
 by_death Strict phase cause i is = is
 by_death _ phase cause i is =
-    let parts = and_parts (settings_fit phase i) (not i.requested || may_request phase i) is in
+    let parts = and_parts (settings_fit phase i) _ is in
     let later = may_later i.enabled i.requested (has_vector i) (is_past_steps phase) parts.1 in
     and_from _ _ (has_vector_form phase i parts.0) (may_by_event i.enabled i.requested (has_vector i) later)
 
@@ -164,56 +154,51 @@ pub by_third_word : (profile : Profile) (first second : ℕ) (i : Interrupts)
     → can_interrupt profile (Step3 first second) i ≡ true → can_interrupt profile Step4 i ≡ true
 by_third_word Strict first second i is = is
 by_third_word _ first second i is =
-    let parts = and_parts (are_asked_by first i) (not i.requested || may_request Step4 i) is in
+    let parts = and_parts (are_asked_by first i) _ is in
     and_from _ _ (has_vector_form (Step3 first second) i parts.0) parts.1
 
 pub by_go : (profile : Profile) (i : Interrupts) → can_interrupt profile Step4 i ≡ true
     → can_interrupt profile Running i ≡ true
 by_go Strict i is = is
 by_go _ i is =
-    let parts = and_parts (is_vector i.vector) (not i.requested || may_request Step4 i) is in
+    let parts = and_parts (is_vector i.vector) _ is in
     and_from _ _ parts.0 (may_later i.enabled i.requested (has_vector i) false parts.1)
 
 -- the emulator takes the request
-silent_served : (e q : Bool) (v : ℕ) → (not e && ((v == 0) && not q)) ≡ true
-    → (not e && ((v == 0) && not false)) ≡ true
-silent_served e q v is =
-    let parts = and_parts (not e) ((v == 0) && not q) is in
-    and_from _ _ parts.0 (and_from _ _ (and_parts (v == 0) (not q) parts.1).0 refl)
+silent_served : (i : Interrupts) → is_silent i ≡ true → is_silent (served i) ≡ true
+silent_served i is =
+    let parts = and_parts (not i.enabled) _ is in
+    and_from _ _ parts.0 (and_from _ _ (and_parts (i.vector == 0) _ parts.1).0 refl)
 
 settings_served : (phase : Phase) (i : Interrupts) → settings_fit phase i ≡ true
     → settings_fit phase (served i) ≡ true
-settings_served Step1 i is = silent_served i.enabled i.requested i.vector is
-settings_served (Wrap word) i is = silent_served i.enabled i.requested i.vector is
+settings_served Step1 i is = silent_served i is
+settings_served (Wrap word) i is = silent_served i is
 settings_served _ i is = is
 
 pub by_service : (profile : Profile) (phase : Phase) (old new : Interrupts) → new ≡ served old
     → can_interrupt profile phase old ≡ true → can_interrupt profile phase new ≡ true
-by_service Strict phase old new now is = rw now (silent_served old.enabled old.requested old.vector is)
+by_service Strict phase old new now is = rw now (silent_served old is)
 by_service _ phase old new now is =
     rw now (and_from _ _ (settings_served phase old (and_parts (settings_fit phase old) _ is).0) refl)
 
 -- the vector of a request that can be pending
 is_address : (v : ℕ) → is_vector v ≡ true → 0 < v → IsVectorAddress v
 is_address v is some =
-    let parts = and_parts (v % 4 == 0) (nat_le v 0x1FC) is in
+    let parts = and_parts (v % 4 == 0) _ is in
     let aligned : v % 4 ≡ 0 = eqb-true _ _ parts.0 in
     let within : v ≤ 0x1FC = leb-true _ _ parts.1 in
     record { aligned = aligned; least = omega (arith, aligned, some); within = within }
 
-positive_by : (q v past : Bool) → q ≡ true → (not q || (v && past)) ≡ true → v ≡ true
-positive_by true v past is may = (and_parts v past may).0
-positive_by false v past is may = absurd (cc)
-
-pub requested_address : (profile : Profile) (phase : Phase) (i : Interrupts) → can_interrupt profile phase i ≡ true
+requested_address : (profile : Profile) (phase : Phase) (i : Interrupts) → can_interrupt profile phase i ≡ true
     → i.requested ≡ true → IsVectorAddress i.vector
 requested_address Strict phase i is requested =
-    let none = (and_parts (i.vector == 0) (not i.requested) (and_parts (not i.enabled) _ is).1).1 in
+    let none = (and_parts (i.vector == 0) _ (and_parts (not i.enabled) _ is).1).1 in
     absurd (true≢false (sym none ∙ ap not requested))
 requested_address _ phase i is requested =
-    let parts = and_parts (settings_fit phase i) (not i.requested || may_request phase i) is in
+    let parts = and_parts (settings_fit phase i) _ is in
     is_address i.vector (has_vector_form phase i parts.0)
-    (ltb-true _ _ (positive_by i.requested (has_vector i) (i.enabled || is_past_steps phase) requested parts.1))
+    (ltb-true _ _ (and_parts (has_vector i) _ (rw requested at parts.1)).0)
 
 address_by : (q : Bool) (v : ℕ) → (q ≡ true → IsVectorAddress v)
     → IfSome (if q then Some v else None) (λ (vector : ℕ). IsVectorAddress vector)
@@ -240,7 +225,7 @@ same_guest _ phase next guest run is = rw run is
 pub go_rings : (profile : Profile) (responses commands : RingState)
     → rings_fit profile Step4 responses commands ≡ true → rings_fit profile Running responses commands ≡ true
 go_rings profile responses commands is =
-    let parts = and_parts (is_base_by profile responses.base) (is_next_to responses commands && are_unused responses commands) is in
+    let parts = and_parts (is_base_by profile responses.base) _ is in
     and_from _ _ parts.0 (and_from _ _ (and_parts (is_next_to responses commands) _ parts.1).0 refl)
 
 pub go_guest : (profile : Profile) (guest : Guest) → guest_fits profile Step4 guest ≡ true
@@ -252,38 +237,29 @@ go_guest _ guest is = refl
 pub rings_move : (profile : Profile) (phase : Phase) (a b c d : RingState) → phase ≡ Running → c.base ≡ a.base
     → c.count ≡ a.count → d.base ≡ b.base → rings_fit profile phase a b ≡ true → rings_fit profile phase c d ≡ true
 rings_move profile phase a b c d runs base count other is =
-    let parts = and_parts (is_base_by profile a.base) (is_next_to a b && true) (rw runs at is) in
-    let next : b.base ≡ a.base + 4 * a.count = eqb-true _ _ (and_parts (is_next_to a b) true parts.1).0 in
+    let parts = and_parts (is_base_by profile a.base) _ (rw runs at is) in
+    let next : b.base ≡ a.base + 4 * a.count = eqb-true _ _ (and_parts (is_next_to a b) _ parts.1).0 in
     let moved : d.base ≡ c.base + 4 * c.count = rw (base, count) (other ∙ next) in
     let at : is_base_by profile c.base ≡ true = rw base parts.0 in
     rw runs (and_from _ _ at (and_from _ _ (eq-eqb _ _ moved) refl))
 
--- the third word sets the rings
-pub rings_set : (profile : Profile) (responses commands : RingState) → 4 ≤ responses.base
-    → nat_lt responses.base (addresses_by profile) ≡ true
-    → commands.base ≡ responses.base + 4 * responses.count → responses.place ≡ 0 → commands.place ≡ 0
-    → rings_fit profile Step4 responses commands ≡ true
-rings_set profile responses commands above within next first second =
-    and_from _ _ (and_from _ _ (le-leb _ _ above) within)
-    (and_from _ _ (eq-eqb _ _ next) (and_from _ _ (eq-eqb _ _ first) (eq-eqb _ _ second)))
-
 -- ---- attention messages
 
-pub none_due_without : (attentions : List Bool) (drive : ℕ) → none_due attentions ≡ true
+none_due_without : (attentions : List Bool) (drive : ℕ) → none_due attentions ≡ true
     → none_due (set attentions drive false) ≡ true
 none_due_without [] drive is = refl
-none_due_without (due ∷ more) zero is = (and_parts (not due) (none_due more) is).1
+none_due_without (due ∷ more) zero is = (and_parts (not due) _ is).1
 none_due_without (due ∷ more) (suc drive) is =
-    let parts = and_parts (not due) (none_due more) is in
+    let parts = and_parts (not due) _ is in
     and_from _ _ parts.0 (none_due_without more drive parts.1)
 
 -- ---- end messages
 
-pub are_basic_more : (old : List Reply) (r : Reply) → are_basic old ≡ true → is_basic_body r.body ≡ true
+are_basic_more : (old : List Reply) (r : Reply) → are_basic old ≡ true → is_basic_body r.body ≡ true
     → are_basic (old ++ r ∷ []) ≡ true
 are_basic_more [] r old-are is = and_from _ _ is refl
 are_basic_more (first ∷ rest) r old-are is =
-    let parts = and_parts (is_basic_body first.body) (are_basic rest) old-are in
+    let parts = and_parts (is_basic_body first.body) _ old-are in
     and_from _ _ parts.0 (are_basic_more rest r parts.1 is)
 
 -- the queue from an index on
@@ -308,7 +284,7 @@ fails_basic xs i default less other so_far = sym (basic_from xs i default less �
 
 pub first_position : (p : Position) → is_first_position p ≡ true → p ≡ FIRST_POSITION
 first_position p is =
-    let parts = and_parts (p.unit == 0) (p.lbn == 0) is in
+    let parts = and_parts (p.unit == 0) _ is in
     let unit : p.unit ≡ 0 = eqb-true _ _ parts.0 in
     let lbn : p.lbn ≡ 0 = eqb-true _ _ parts.1 in
     let at : ◌≡◌ {A = Position} (record { unit = p.unit; lbn = p.lbn }) FIRST_POSITION = rw (unit, lbn) refl in
@@ -329,7 +305,7 @@ unset_by : (runs : Bool) (guest : Guest) (drive : ℕ) → (runs || ((guest.flag
     → (runs || ((guest.flags == 0) && none_due (set guest.attentions drive false))) ≡ true
 unset_by true guest drive is = refl
 unset_by _ guest drive is =
-    let parts = and_parts (guest.flags == 0) (none_due guest.attentions) is in
+    let parts = and_parts (guest.flags == 0) _ is in
     and_from _ _ parts.0 (none_due_without guest.attentions drive parts.1)
 
 unset_fits : (profile : Profile) (phase : Phase) (guest : Guest) (drive : ℕ) → guest_fits profile phase guest ≡ true
@@ -347,18 +323,12 @@ pub after_fits : (profile : Profile) (phase : Phase) (e : Reply) (guest : Guest)
 after_fits profile phase e guest is = after_by (is_online_now e) profile phase guest e.unit is
 
 -- an attached drive
-drive_by : (there : Bool) (profile : Profile) (phase : Phase) (guest : Guest) (drive : ℕ)
-    → guest_fits profile phase guest ≡ true
-    → guest_fits profile phase (attention_set guest drive (there && expects_attention profile phase guest.flags)) ≡ true
-drive_by false profile phase guest drive is = unset_fits profile phase guest drive is
-drive_by true Strict phase guest drive is = unset_fits Strict phase guest drive is
-drive_by true (Compatible identity) Running guest drive is = refl
-drive_by true (Compatible identity) phase guest drive is = unset_fits (Compatible identity) phase guest drive is
-
 pub drive_fits : (profile : Profile) (phase : Phase) (guest : Guest) (drive : ℕ) (there : Bool)
     → guest_fits profile phase guest ≡ true
     → guest_fits profile phase (attention_set guest drive (there && expects_attention profile phase guest.flags)) ≡ true
-drive_fits profile phase guest drive there is = drive_by there profile phase guest drive is
+drive_fits profile phase guest drive false is = unset_fits profile phase guest drive is
+drive_fits (Compatible identity) Running guest drive true is = refl
+drive_fits profile phase guest drive true is = unset_fits profile phase guest drive is
 
 pub unset_by_set : (profile : Profile) (phase : Phase) (old new : Guest) (drive : ℕ)
     → new ≡ attention_set old drive false → guest_fits profile phase old ≡ true → guest_fits profile phase new ≡ true
@@ -377,28 +347,20 @@ pub queue_answered : (profile : Profile) (old : List Reply) (r : Reply) (exec : 
 queue_answered Strict old r exec basic is = are_basic_more old r is (basic refl)
 queue_answered _ old r exec basic is = refl
 
-less_by : (profile : Profile) (first : Reply) (rest : List Reply) → queue_fits profile (first ∷ rest) ≡ true
-    → queue_fits profile rest ≡ true
-less_by Strict first rest is = (and_parts (is_basic_body first.body) (are_basic rest) is).1
-less_by _ first rest is = refl
-
 pub queue_less : (profile : Profile) (old : List Reply) (first : Reply) (rest : List Reply) → old ≡ first ∷ rest
     → queue_fits profile old ≡ true → queue_fits profile rest ≡ true
-queue_less profile old first rest are is =
-    less_by profile first rest (rw are at is)
+queue_less Strict old first rest are is = (and_parts (is_basic_body first.body) _ (rw are at is)).1
+queue_less _ old first rest are is = refl
 
 -- the end message of an invalid command
 basic_of : (e : End) (r : Reply) → basic_reply e ≡ r → is_basic_body r.body ≡ true
 basic_of e r is = rw (← is) refl
 
-err_of : (a b : Reply) → ◌≡◌ {A = Result GuestCommand Reply} (Err a) (Err b) → a ≡ b
-err_of a b is = cc
-
 bad_by : (fits : Bool) (read : Result Command Bad) (e : End) (r : Reply)
     → (if fits then asked_as Basic (reply_to_bad read) else Err (basic_reply e)) ≡ Err r → is_basic_body r.body ≡ true
 bad_by true (Ok c) e r is = absurd (cc)
-bad_by true (Err bad) e r is = basic_of (bad_end bad) r (err_of _ _ is)
-bad_by false read e r is = basic_of e r (err_of _ _ is)
+bad_by true (Err bad) e r is = basic_of (bad_end bad) r (cc)
+bad_by false read e r is = basic_of e r (cc)
 
 pub strict_refusal : (profile : Profile) (p : Fetched) (r : Reply) → message_in profile p ≡ Err r
     → profile ≡ Strict → is_basic_body r.body ≡ true

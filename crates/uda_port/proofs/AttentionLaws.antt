@@ -45,32 +45,20 @@ no_longer (x ∷ xs) zero is = rw is (omega arith)
 no_longer (x ∷ xs) (suc k) is = no_longer xs k is
 
 fewer_or_same : (xs : List Bool) (n : ℕ) → due_count (set xs n false) ≤ due_count xs
-fewer_or_same xs n = omega (arith, cleared xs n 0, cleared xs n 1, cleared xs n 2, cleared xs n 3)
+fewer_or_same xs n = omega (arith, cleared xs n)
 
 module _ (xs : List Bool) where
-  fewer_at_0 : is_due xs 0 ≡ true → due_count (set xs 0 false) < due_count xs
-  fewer_at_0 is = omega (arith, no_longer xs 0 is, cleared xs 0 1, cleared xs 0 2, cleared xs 0 3)
-
-  fewer_at_1 : is_due xs 1 ≡ true → due_count (set xs 1 false) < due_count xs
-  fewer_at_1 is = omega (arith, cleared xs 1 0, no_longer xs 1 is, cleared xs 1 2, cleared xs 1 3)
-
-  fewer_at_2 : is_due xs 2 ≡ true → due_count (set xs 2 false) < due_count xs
-  fewer_at_2 is = omega (arith, cleared xs 2 0, cleared xs 2 1, no_longer xs 2 is, cleared xs 2 3)
-
-  fewer_at_3 : is_due xs 3 ≡ true → due_count (set xs 3 false) < due_count xs
-  fewer_at_3 is = omega (arith, cleared xs 3 0, cleared xs 3 1, cleared xs 3 2, no_longer xs 3 is)
-
   fewer_by : (a b c d : Bool) (drive : ℕ) → is_due xs 0 ≡ a → is_due xs 1 ≡ b → is_due xs 2 ≡ c → is_due xs 3 ≡ d
       → (if a then Some 0 else if b then Some 1 else if c then Some 2 else if d then Some 3 else None) ≡ Some drive
       → due_count (set xs drive false) < due_count xs
   fewer_by true b c d drive a_is b_is c_is d_is first =
-      let at : 0 ≡ drive = cc in subst (λ n. due_count (set xs n false) < due_count xs) at (fewer_at_0 a_is)
+      let at : drive ≡ 0 = cc in rw at (omega (arith, cleared xs 0, no_longer xs 0 a_is))
   fewer_by false true c d drive a_is b_is c_is d_is first =
-      let at : 1 ≡ drive = cc in subst (λ n. due_count (set xs n false) < due_count xs) at (fewer_at_1 b_is)
+      let at : drive ≡ 1 = cc in rw at (omega (arith, cleared xs 1, no_longer xs 1 b_is))
   fewer_by false false true d drive a_is b_is c_is d_is first =
-      let at : 2 ≡ drive = cc in subst (λ n. due_count (set xs n false) < due_count xs) at (fewer_at_2 c_is)
+      let at : drive ≡ 2 = cc in rw at (omega (arith, cleared xs 2, no_longer xs 2 c_is))
   fewer_by false false false true drive a_is b_is c_is d_is first =
-      let at : 3 ≡ drive = cc in subst (λ n. due_count (set xs n false) < due_count xs) at (fewer_at_3 d_is)
+      let at : drive ≡ 3 = cc in rw at (omega (arith, cleared xs 3, no_longer xs 3 d_is))
   fewer_by false false false false drive a_is b_is c_is d_is first = absurd (cc)
 
   fewer : (drive : ℕ) → first_due xs ≡ Some drive → due_count (set xs drive false) < due_count xs
@@ -80,19 +68,10 @@ flags_attentions : (profile : Profile) (p : Packet) (message : Result GuestComma
     → (flags_kept profile p message g).attentions ≡ g.attentions
 flags_attentions Strict p message g = refl
 flags_attentions (Compatible identity) p (Err reply) g = refl
-flags_attentions (Compatible identity) p (Ok c) g = by (is_controller c.command.op) refl
-  where
-    by : (b : Bool) → is_controller c.command.op ≡ b
-        → (flags_kept (Compatible identity) p (Ok c) g).attentions ≡ g.attentions
-    by true is = rw is refl
-    by false is = rw is refl
+flags_attentions (Compatible identity) p (Ok c) g = grind arith
 
 after_end : (e : Reply) (g : Guest) → due_count (guest_after e g).attentions ≤ due_count g.attentions
-after_end e g = by (is_online_now e) refl
-  where
-    by : (b : Bool) → is_online_now e ≡ b → due_count (guest_after e g).attentions ≤ due_count g.attentions
-    by true is = rw is (fewer_or_same g.attentions e.unit)
-    by false is = rw is (omega arith)
+after_end e g = grind (arith, fewer_or_same)
 
 -- ---- pending commands
 
@@ -203,17 +182,10 @@ module _ (old : PortState) (memory : List ℕ) (new : PortState) (memory_after :
 
 one_at_most : (b : Bool) → one_if b ≤ 1
 one_at_most true = omega arith
-one_at_most false = omega arith
+one_at_most _ = omega arith
 
 four_at_most : (xs : List Bool) → due_count xs ≤ 4
-four_at_most xs =
-    omega (
-      arith,
-      one_at_most (is_due xs 0),
-      one_at_most (is_due xs 1),
-      one_at_most (is_due xs 2),
-      one_at_most (is_due xs 3),
-    )
+four_at_most xs = omega (arith, one_at_most)
 
 pub most_turns : (port : PortState) → CreditsAgree port → turns_to_notify port ≤ MOST_TURNS_TO_NOTIFY
 most_turns port agree = by port.deliveries refl

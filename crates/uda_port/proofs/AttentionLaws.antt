@@ -78,7 +78,7 @@ after_end e g = grind (arith, fewer_or_same)
 removed : {A : Type 0} (xs : List A) (j : ℕ) (x : A) → slice_get xs j ≡ Some x → length (remove xs j) < length xs
 removed [] j x is = absurd (cc)
 removed (y ∷ xs) zero x is = omega arith
-removed (y ∷ xs) (suc j) x is = let less = removed xs j x is in omega (arith, less)
+removed (y ∷ xs) (suc j) x is = omega (arith, removed xs j x is)
 
 executed : (profile : Profile) (j : ℕ) (old : ExecState) (memory : List ℕ) (r : Reply) (new : ExecState)
     (memory_after : List ℕ) → ExecutesFor profile j old memory r new memory_after
@@ -106,7 +106,7 @@ by_profile (Compatible identity) r exec = at_once r.body r exec
 with_message : (old : PortState) (message : Result GuestCommand Reply)
     → length (port_with_message old message).exec.pending ≤ length old.exec.pending + 1
 with_message old (Ok c) = omega (arith, length-append old.exec.pending (c.command ∷ []))
-with_message old (Err r) = let same = by_profile old.profile r old.exec in omega (arith, same)
+with_message old (Err r) = omega (arith, by_profile old.profile r old.exec)
 
 -- ---- a turn
 
@@ -114,38 +114,24 @@ some_of : {A : Type 0} (o : Option A) → IsSome o → (x : A) × (o ≡ Some x)
 some_of None is = absurd (cc)
 some_of (Some x) is = (x, refl)
 
-abbrev pending_of : PortState → List Command
-pending_of port = port.exec.pending
-
-abbrev attentions_of : PortState → List Bool
-attentions_of port = port.guest.attentions
-
 module _ (old : PortState) (memory : List ℕ) (new : PortState) (memory_after : List ℕ) (may : MayNotify old memory) where
   running_first : (turn : Turn) → RunningTurn old memory turn new memory_after → goes_before_ends turn ≡ true
-  running_first Delivered goes =
-      let no : is_some {T = List ℕ} None ≡ true = subst (λ (t : Option (List ℕ)). is_some t ≡ true) goes.rest.1.none_due may.due in
-      absurd (cc)
+  running_first Delivered goes = absurd (cc (may.due, goes.rest.1.none_due))
   running_first Idle goes =
       let text = some_of (attention_text old) may.due in
       let host = goes.rest.1.0 text.0 (attention_first (port_not_polling (port_turn_on old)) text.0 text.1) in
-      let same : Some host.next ≡ Some may.descriptor = sym host.is_next ∙ may.free.is_next in
-      let one : host.next ≡ may.descriptor = cc in
-      let both : false ≡ true = sym host.not_owned ∙ ap (λ (d : Descriptor). is_owned d) one ∙ may.free.owned in
-      absurd (cc)
+      absurd (cc (host.is_next, host.not_owned, may.free.is_next, may.free.owned))
   running_first _ goes = refl
 
   running_nearer : (turn : Turn) → RunningTurn old memory turn new memory_after → ComesNearer old turn new
   running_nearer Fetched goes =
       let message = message_in old.profile goes.packet in
-      omega (
+      rw goes.others (omega (
         arith,
         goes.credit,
-        ap (λ (p : PortState). p.credits) goes.others,
-        ap (λ (p : PortState). length p.exec.pending) goes.others,
         with_message (port_turn_on old) message,
-        ap (λ (p : PortState). due_count p.guest.attentions) goes.others,
         ap due_count (flags_attentions old.profile goes.packet message old.guest),
-      )
+      ))
   running_nearer Executed goes =
       let one = goes.rest.1 in
       omega (
@@ -156,17 +142,10 @@ module _ (old : PortState) (memory : List ℕ) (new : PortState) (memory_after :
         after_end one.end old.guest,
       )
   running_nearer Notified goes =
-      let one = goes.rest.1 in
-      omega (
-        arith,
-        ap (λ (p : PortState). p.credits) one.others,
-        ap (λ (p : PortState). length p.exec.pending) one.others,
-        ap (λ (p : PortState). due_count p.guest.attentions) one.others,
-        fewer old.guest.attentions one.drive one.due,
-      )
+      let one = goes.rest.1 in rw one.others (omega (arith, fewer old.guest.attentions one.drive one.due))
   running_nearer Dead goes = tt
-  running_nearer Delivered goes = let no = running_first Delivered goes in absurd (cc)
-  running_nearer Idle goes = let no = running_first Idle goes in absurd (cc)
+  running_nearer Delivered goes = absurd (cc (running_first Delivered goes))
+  running_nearer Idle goes = absurd (cc (running_first Idle goes))
 
   runs : (turn : Turn) → TurnEffect old.phase old memory turn new memory_after
       → RunningTurn old memory turn new memory_after
@@ -188,13 +167,7 @@ four_at_most : (xs : List Bool) → due_count xs ≤ 4
 four_at_most xs = omega (arith, one_at_most)
 
 pub most_turns : (port : PortState) → CreditsAgree port → turns_to_notify port ≤ MOST_TURNS_TO_NOTIFY
-most_turns port agree = by port.deliveries refl
-  where
-    by : (d : ℕ) → port.deliveries ≡ d → turns_to_notify port ≤ MOST_TURNS_TO_NOTIFY
-    by zero is =
-        omega (arith, agree.credits, agree.conserved, is, ap credits_granted is, four_at_most port.guest.attentions)
-    by (suc d) is =
-        omega (arith, agree.credits, agree.conserved, is, ap credits_granted is, four_at_most port.guest.attentions)
+most_turns port agree = omega (arith, agree.credits, agree.conserved, four_at_most port.guest.attentions)
 
 -- ---- turns one after another
 
@@ -217,6 +190,4 @@ one_nearer old new t =
 pub attention_arrives : AttentionArrives
 attention_arrives zero first last same = omega (arith, ap turns_to_notify same)
 attention_arrives (suc n) first last turns =
-    let one = one_nearer first turns.0 turns.1 in
-    let more = attention_arrives n turns.0 last turns.2 in
-    omega (arith, one, more)
+    omega (arith, one_nearer first turns.0 turns.1, attention_arrives n turns.0 last turns.2)

@@ -57,15 +57,6 @@ dies p cause can is =
     steps p p.phase (Dead cause) _ refl (sym can.rings) (sym can.ran) (λ _. can.fatal)
     (by_death p.profile p.phase cause p.interrupts) is
 
--- before the third word a strict port can die of a feature that it doesn't have, and any port of its rings
-pub dies_strictly : (phase : Phase) → has_rings phase ≡ false → has_run phase ≡ false
-    → CanDie Strict phase InitializationError
-dies_strictly phase rings run = record { fatal = refl; ran = run; rings = rings }
-
-pub dies_of_rings : (profile : Profile) (phase : Phase) → has_rings phase ≡ false → has_run phase ≡ false
-    → CanDie profile phase RingWrite
-dies_of_rings profile phase rings run = record { fatal = in_both profile (Dead RingWrite) refl refl; ran = run; rings = rings }
-
 -- ---- the first word
 
 first_accepted : (profile : Profile) (word : ℕ) → is_first_word word ≡ true → has_phase profile (Step2 word) ≡ true
@@ -142,23 +133,24 @@ passes_poll p step is =
     (λ may. by_step p.profile Step4 p.interrupts
         (same_interrupts p.profile PollTest Step4 p.interrupts refl refl may)) is
 
--- ---- the second and the third word ask for what a strict port doesn't have
+-- ---- before the third word a strict port can die of a feature that it doesn't have, and any port of its rings
 
 pub second_refused : (profile : Profile) (phase : Phase) (first word : ℕ) → phase ≡ Step2 first
     → refuses_second profile word ≡ true → CanDie profile phase InitializationError
 second_refused Strict phase first word step refused =
-    dies_strictly phase (ap has_rings step) (ap has_run step)
+    record { fatal = refl; ran = ap has_run step; rings = ap has_rings step }
 second_refused _ phase first word step refused = absurd (cc)
 
 pub third_refused : (profile : Profile) (phase : Phase) (first second word : ℕ) → phase ≡ Step3 first second
     → refuses_third profile word ≡ true → CanDie profile phase InitializationError
 third_refused Strict phase first second word step refused =
-    dies_strictly phase (ap has_rings step) (ap has_run step)
+    record { fatal = refl; ran = ap has_run step; rings = ap has_rings step }
 third_refused _ phase first second word step refused = absurd (cc)
 
 pub area_refused : (profile : Profile) (phase : Phase) (first second : ℕ) → phase ≡ Step3 first second
     → CanDie profile phase RingWrite
-area_refused profile phase first second step = dies_of_rings profile phase (ap has_rings step) (ap has_run step)
+area_refused profile phase first second step =
+    record { fatal = in_both profile (Dead RingWrite) refl refl; ran = ap has_run step; rings = ap has_rings step }
 
 -- ---- the third word sets the rings
 
@@ -292,19 +284,14 @@ ignores_read _ old not_poll not_running = refl
 abbrev TakesNoWord : Phase → Type 0
 TakesNoWord phase = (phase ≡ PollTest) ⊎ ((phase ≡ Running) ⊎ ((cause : Fatal) × (phase ≡ Dead cause)))
 
-takes_one : (phase : Phase) → phase ≢ PollTest → phase ≢ Running → ((cause : Fatal) → phase ≢ Dead cause)
-    → TakesNoWord phase → ⊥
-takes_one phase one two three (inl is) = one is
-takes_one phase one two three (inr (inl is)) = two is
-takes_one phase one two three (inr (inr dead)) = three dead.0 dead.1
-
 pub ignores_word : (phase : Phase) (old : PortState) (memory : List ℕ) (word : ℕ) → TakesNoWord phase
     → after_sa_write phase old memory word ≡ (old, memory)
 ignores_word PollTest old memory word is = refl
 ignores_word Running old memory word is = refl
 ignores_word (Dead cause) old memory word is = refl
-ignores_word phase old memory word is =
-    absurd (takes_one phase (λ no. absurd (cc)) (λ no. absurd (cc)) (λ cause no. absurd (cc)) is)
+ignores_word phase old memory word (inl is) = absurd (cc)
+ignores_word phase old memory word (inr (inl is)) = absurd (cc)
+ignores_word phase old memory word (inr (inr dead)) = absurd (cc)
 
 -- ---- the fatal errors of a turn
 

@@ -1,17 +1,14 @@
 -- How soon an attention message that is due is delivered: what the effect of a turn says of it.
-use Rattle.std.proofs.Common.{◌≡◌, ◌≤◌, ◌<◌, ℕ, zero, suc, ◌+◌, Bool, true, false, List, [], ◌∷◌, ◌++◌, length, Option, Some, None, arith, refl, sym, ap, ◌∙◌, subst}
+use Rattle.std.proofs.Common.{◌≡◌, ◌≤◌, ◌<◌, ℕ, zero, suc, ◌+◌, Bool, true, false, List, [], ◌∷◌, ◌++◌, length, Option, Some, None, arith, refl, ap, subst}
 use Rattle.std.proofs.lemmas.List.{length-append, length-take, length-drop}
-use Rattle.std.specs.Prelude.{is_some, IsSome, set, take, drop, remove, slice_get, Result, Ok, Err, if◌then◌else◌}
+use Rattle.std.specs.Prelude.{IsSome, set, take, drop, remove, slice_get, Result, Ok, Err, if◌then◌else◌}
 use Rattle.std.specs.List.{position_or_len, before_first, after_first}
-use Rattle.uda_packet.specs.declared.command.Command.{Command}
 use Rattle.uda_packet.specs.declared.guest_command.GuestCommand.{GuestCommand}
 use Rattle.uda_packet.specs.declared.reply.Reply.{Reply}
 use Rattle.uda_packet.specs.declared.reply.ReplyBody.{ReplyBody}
 use Rattle.uda_packet.specs.declared.reply.ReplyBody.TheVariants as body
-use Rattle.uda_exec.specs.Commands.{is_controller}
 use Rattle.uda_exec.specs.Disks.{ExecState}
 use Rattle.uda_exec.specs.Named.{is_named}
-use Rattle.uda_port.specs.declared.descriptor.Descriptor.{Descriptor}
 use Rattle.uda_port.specs.declared.guest.Guest.{Guest}
 use Rattle.uda_port.specs.declared.packet.Fetched.{Fetched as Packet}
 use Rattle.uda_port.specs.declared.phase.Phase.{Phase}
@@ -22,11 +19,10 @@ use Rattle.uda_port.specs.declared.turn.Turn.TheVariants.{Fetched, Executed, Del
 use Rattle.uda_port.specs.AtOnce.{exec_for, exec_at_once}
 use Rattle.uda_port.specs.Attention.{MayNotify, goes_before_ends, one_if, due_count, turns_to_notify, ComesNearer}
 use Rattle.uda_port.specs.Attention.{MOST_TURNS_TO_NOTIFY, UndeliveredTurn, AttentionArrives}
-use Rattle.uda_port.specs.Guest.{is_due, first_due, is_online_now, guest_after}
+use Rattle.uda_port.specs.Guest.{is_due, first_due, guest_after}
 use Rattle.uda_port.specs.Message.{message_in, flags_kept}
-use Rattle.uda_port.specs.Port.{PortState, CreditsAgree, credits_granted}
+use Rattle.uda_port.specs.Port.{PortState, CreditsAgree}
 use Rattle.uda_port.specs.Report.{attention_text}
-use Rattle.uda_port.specs.Ring.{is_owned}
 use Rattle.uda_port.specs.Turn.{TurnEffect, RunningTurn, ExecutesFor, port_with_message, port_turn_on, port_not_polling}
 use Rattle.uda_port.proofs.TurnLaws.{attention_first}
 

@@ -1,6 +1,6 @@
 -- What keeps a port's state possible.
-use Rattle.std.proofs.Common.{◌≡◌, ℕ, ◌+◌, ◌*◌, ◌%◌, ◌<◌, ◌≤◌, ◌==◌, zero, suc, Bool, true, false, ◌&&◌, ◌||◌, List, [], ◌∷◌, ◌++◌, refl, sym, ap, subst, ◌∙◌, add-one, arith}
-use Rattle.std.specs.Prelude.{if◌then◌else◌, not, nat_lt, nat_le, set, drop, get_or, length, Option, Some, None, IfSome, is_some, option_map, Result, Ok, Err}
+use Rattle.std.proofs.Common.{◌≡◌, ℕ, ◌+◌, ◌*◌, ◌%◌, ◌<◌, ◌≤◌, ◌==◌, zero, suc, Bool, true, false, ◌&&◌, ◌||◌, List, [], ◌∷◌, ◌++◌, refl, sym, ap, ◌∙◌, add-one, arith}
+use Rattle.std.specs.Prelude.{if◌then◌else◌, not, nat_lt, nat_le, set, drop, get_or, length, Option, Some, None, IfSome, is_some, Result, Ok, Err}
 use Rattle.std.proofs.lemmas.Bool.{and_parts, and_from, or_right, le-leb, leb-true, ltb-true, eqb-true, eq-eqb, true≢false}
 use Rattle.uda_exec.specs.Saved.{same_flag}
 use Rattle.uda_exec.specs.declared.scheduler.Position.{Position}
@@ -21,7 +21,7 @@ use Rattle.uda_port.specs.AtOnce.{replies_at_once}
 use Rattle.uda_port.specs.declared.packet.Fetched.{Fetched}
 use Rattle.uda_port.specs.Message.{message_in, flags_kept}
 use Rattle.uda_port.specs.Port.{expects_attention}
-use Rattle.uda_port.specs.Report.{attention_by, attention_of, available_text, unit_report}
+use Rattle.uda_port.specs.Report.{attention_by, available_text, unit_report}
 use Rattle.uda_packet.specs.declared.guest_end.UnitReport.{UnitReport}
 use Rattle.uda_disk.specs.Units.{Units}
 use Rattle.uda_port.proofs.TurnLaws.{strict_executes}
@@ -29,12 +29,12 @@ use Rattle.uda_port.specs.declared.guest.Guest.{Guest}
 use Rattle.uda_port.specs.declared.interrupt.Interrupts.{Interrupts}
 use Rattle.uda_port.specs.declared.phase.Fatal.{Fatal}
 use Rattle.uda_port.specs.declared.phase.Phase.{Phase}
-use Rattle.uda_port.specs.declared.phase.Phase.TheVariants.{Step1, Step2, Step3, Wrap, PurgeTest, PollTest, Step4, Running, Dead}
+use Rattle.uda_port.specs.declared.phase.Phase.TheVariants.{Step1, Step2, Step3, Wrap, Step4, Running, Dead}
 use Rattle.uda_port.specs.declared.profile.Profile.{Profile}
 use Rattle.uda_port.specs.declared.profile.Profile.TheVariants.{Strict, Compatible}
 use Rattle.uda_port.specs.Guest.{GUEST_AT_FIRST, guest_restarted, attention_set, guest_after, is_online_now, first_due}
 use Rattle.uda_port.specs.Interrupt.{NO_INTERRUPTS, interrupts_asked, has_vector, raised, raised_by_step, noted, served, vector_of, IsVectorAddress}
-use Rattle.uda_port.specs.Possible.{has_run, has_rings, has_phase, is_vector, are_asked_by, settings_fit, is_past_steps, may_request, can_interrupt, is_silent, is_base_by, is_next_to, are_unused, rings_fit, addresses_by, none_due, is_guest_running, guest_fits, is_basic_body, are_basic, queue_fits, is_first_position}
+use Rattle.uda_port.specs.Possible.{has_run, has_rings, has_phase, is_vector, are_asked_by, settings_fit, is_past_steps, can_interrupt, is_silent, is_base_by, is_next_to, rings_fit, none_due, is_guest_running, guest_fits, is_basic_body, are_basic, queue_fits, is_first_position}
 use Rattle.uda_port.specs.Ring.{RingState}
 use Rattle.uda_port.specs.Startup.{has_bit}
 

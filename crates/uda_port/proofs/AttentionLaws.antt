@@ -1,17 +1,14 @@
 -- How soon an attention message that is due is delivered: what the effect of a turn says of it.
-use Rattle.std.proofs.Common.{◌≡◌, ◌≤◌, ◌<◌, ℕ, zero, suc, ◌+◌, Bool, true, false, List, [], ◌∷◌, ◌++◌, length, Option, Some, None, arith, refl, sym, ap, ◌∙◌, subst}
+use Rattle.std.proofs.Common.{◌≡◌, ◌≤◌, ◌<◌, ℕ, zero, suc, ◌+◌, Bool, true, false, List, [], ◌∷◌, ◌++◌, length, Option, Some, None, arith, refl, ap, subst}
 use Rattle.std.proofs.lemmas.List.{length-append, length-take, length-drop}
-use Rattle.std.specs.Prelude.{is_some, IsSome, set, take, drop, remove, slice_get, Result, Ok, Err, if◌then◌else◌}
+use Rattle.std.specs.Prelude.{IsSome, set, take, drop, remove, slice_get, Result, Ok, Err, if◌then◌else◌}
 use Rattle.std.specs.List.{position_or_len, before_first, after_first}
-use Rattle.uda_packet.specs.declared.command.Command.{Command}
 use Rattle.uda_packet.specs.declared.guest_command.GuestCommand.{GuestCommand}
 use Rattle.uda_packet.specs.declared.reply.Reply.{Reply}
 use Rattle.uda_packet.specs.declared.reply.ReplyBody.{ReplyBody}
 use Rattle.uda_packet.specs.declared.reply.ReplyBody.TheVariants as body
-use Rattle.uda_exec.specs.Commands.{is_controller}
 use Rattle.uda_exec.specs.Disks.{ExecState}
 use Rattle.uda_exec.specs.Named.{is_named}
-use Rattle.uda_port.specs.declared.descriptor.Descriptor.{Descriptor}
 use Rattle.uda_port.specs.declared.guest.Guest.{Guest}
 use Rattle.uda_port.specs.declared.packet.Fetched.{Fetched as Packet}
 use Rattle.uda_port.specs.declared.phase.Phase.{Phase}
@@ -22,11 +19,10 @@ use Rattle.uda_port.specs.declared.turn.Turn.TheVariants.{Fetched, Executed, Del
 use Rattle.uda_port.specs.AtOnce.{exec_for, exec_at_once}
 use Rattle.uda_port.specs.Attention.{MayNotify, goes_before_ends, one_if, due_count, turns_to_notify, ComesNearer}
 use Rattle.uda_port.specs.Attention.{MOST_TURNS_TO_NOTIFY, UndeliveredTurn, AttentionArrives}
-use Rattle.uda_port.specs.Guest.{is_due, first_due, is_online_now, guest_after}
+use Rattle.uda_port.specs.Guest.{is_due, first_due, guest_after}
 use Rattle.uda_port.specs.Message.{message_in, flags_kept}
-use Rattle.uda_port.specs.Port.{PortState, CreditsAgree, credits_granted}
+use Rattle.uda_port.specs.Port.{PortState, CreditsAgree}
 use Rattle.uda_port.specs.Report.{attention_text}
-use Rattle.uda_port.specs.Ring.{is_owned}
 use Rattle.uda_port.specs.Turn.{TurnEffect, RunningTurn, ExecutesFor, port_with_message, port_turn_on, port_not_polling}
 use Rattle.uda_port.proofs.TurnLaws.{attention_first}
 
@@ -45,32 +41,20 @@ no_longer (x ∷ xs) zero is = rw is (omega arith)
 no_longer (x ∷ xs) (suc k) is = no_longer xs k is
 
 fewer_or_same : (xs : List Bool) (n : ℕ) → due_count (set xs n false) ≤ due_count xs
-fewer_or_same xs n = omega (arith, cleared xs n 0, cleared xs n 1, cleared xs n 2, cleared xs n 3)
+fewer_or_same xs n = omega (arith, cleared xs n)
 
 module _ (xs : List Bool) where
-  fewer_at_0 : is_due xs 0 ≡ true → due_count (set xs 0 false) < due_count xs
-  fewer_at_0 is = omega (arith, no_longer xs 0 is, cleared xs 0 1, cleared xs 0 2, cleared xs 0 3)
-
-  fewer_at_1 : is_due xs 1 ≡ true → due_count (set xs 1 false) < due_count xs
-  fewer_at_1 is = omega (arith, cleared xs 1 0, no_longer xs 1 is, cleared xs 1 2, cleared xs 1 3)
-
-  fewer_at_2 : is_due xs 2 ≡ true → due_count (set xs 2 false) < due_count xs
-  fewer_at_2 is = omega (arith, cleared xs 2 0, cleared xs 2 1, no_longer xs 2 is, cleared xs 2 3)
-
-  fewer_at_3 : is_due xs 3 ≡ true → due_count (set xs 3 false) < due_count xs
-  fewer_at_3 is = omega (arith, cleared xs 3 0, cleared xs 3 1, cleared xs 3 2, no_longer xs 3 is)
-
   fewer_by : (a b c d : Bool) (drive : ℕ) → is_due xs 0 ≡ a → is_due xs 1 ≡ b → is_due xs 2 ≡ c → is_due xs 3 ≡ d
       → (if a then Some 0 else if b then Some 1 else if c then Some 2 else if d then Some 3 else None) ≡ Some drive
       → due_count (set xs drive false) < due_count xs
   fewer_by true b c d drive a_is b_is c_is d_is first =
-      let at : 0 ≡ drive = cc in subst (λ n. due_count (set xs n false) < due_count xs) at (fewer_at_0 a_is)
+      let at : drive ≡ 0 = cc in rw at (omega (arith, cleared xs 0, no_longer xs 0 a_is))
   fewer_by false true c d drive a_is b_is c_is d_is first =
-      let at : 1 ≡ drive = cc in subst (λ n. due_count (set xs n false) < due_count xs) at (fewer_at_1 b_is)
+      let at : drive ≡ 1 = cc in rw at (omega (arith, cleared xs 1, no_longer xs 1 b_is))
   fewer_by false false true d drive a_is b_is c_is d_is first =
-      let at : 2 ≡ drive = cc in subst (λ n. due_count (set xs n false) < due_count xs) at (fewer_at_2 c_is)
+      let at : drive ≡ 2 = cc in rw at (omega (arith, cleared xs 2, no_longer xs 2 c_is))
   fewer_by false false false true drive a_is b_is c_is d_is first =
-      let at : 3 ≡ drive = cc in subst (λ n. due_count (set xs n false) < due_count xs) at (fewer_at_3 d_is)
+      let at : drive ≡ 3 = cc in rw at (omega (arith, cleared xs 3, no_longer xs 3 d_is))
   fewer_by false false false false drive a_is b_is c_is d_is first = absurd (cc)
 
   fewer : (drive : ℕ) → first_due xs ≡ Some drive → due_count (set xs drive false) < due_count xs
@@ -80,26 +64,17 @@ flags_attentions : (profile : Profile) (p : Packet) (message : Result GuestComma
     → (flags_kept profile p message g).attentions ≡ g.attentions
 flags_attentions Strict p message g = refl
 flags_attentions (Compatible identity) p (Err reply) g = refl
-flags_attentions (Compatible identity) p (Ok c) g = by (is_controller c.command.op) refl
-  where
-    by : (b : Bool) → is_controller c.command.op ≡ b
-        → (flags_kept (Compatible identity) p (Ok c) g).attentions ≡ g.attentions
-    by true is = rw is refl
-    by false is = rw is refl
+flags_attentions (Compatible identity) p (Ok c) g = grind arith
 
 after_end : (e : Reply) (g : Guest) → due_count (guest_after e g).attentions ≤ due_count g.attentions
-after_end e g = by (is_online_now e) refl
-  where
-    by : (b : Bool) → is_online_now e ≡ b → due_count (guest_after e g).attentions ≤ due_count g.attentions
-    by true is = rw is (fewer_or_same g.attentions e.unit)
-    by false is = rw is (omega arith)
+after_end e g = grind (arith, fewer_or_same)
 
 -- ---- pending commands
 
 removed : {A : Type 0} (xs : List A) (j : ℕ) (x : A) → slice_get xs j ≡ Some x → length (remove xs j) < length xs
 removed [] j x is = absurd (cc)
 removed (y ∷ xs) zero x is = omega arith
-removed (y ∷ xs) (suc j) x is = let less = removed xs j x is in omega (arith, less)
+removed (y ∷ xs) (suc j) x is = omega (arith, removed xs j x is)
 
 executed : (profile : Profile) (j : ℕ) (old : ExecState) (memory : List ℕ) (r : Reply) (new : ExecState)
     (memory_after : List ℕ) → ExecutesFor profile j old memory r new memory_after
@@ -127,7 +102,7 @@ by_profile (Compatible identity) r exec = at_once r.body r exec
 with_message : (old : PortState) (message : Result GuestCommand Reply)
     → length (port_with_message old message).exec.pending ≤ length old.exec.pending + 1
 with_message old (Ok c) = omega (arith, length-append old.exec.pending (c.command ∷ []))
-with_message old (Err r) = let same = by_profile old.profile r old.exec in omega (arith, same)
+with_message old (Err r) = omega (arith, by_profile old.profile r old.exec)
 
 -- ---- a turn
 
@@ -135,38 +110,24 @@ some_of : {A : Type 0} (o : Option A) → IsSome o → (x : A) × (o ≡ Some x)
 some_of None is = absurd (cc)
 some_of (Some x) is = (x, refl)
 
-abbrev pending_of : PortState → List Command
-pending_of port = port.exec.pending
-
-abbrev attentions_of : PortState → List Bool
-attentions_of port = port.guest.attentions
-
 module _ (old : PortState) (memory : List ℕ) (new : PortState) (memory_after : List ℕ) (may : MayNotify old memory) where
   running_first : (turn : Turn) → RunningTurn old memory turn new memory_after → goes_before_ends turn ≡ true
-  running_first Delivered goes =
-      let no : is_some {T = List ℕ} None ≡ true = subst (λ (t : Option (List ℕ)). is_some t ≡ true) goes.rest.1.none_due may.due in
-      absurd (cc)
+  running_first Delivered goes = absurd (cc (may.due, goes.rest.1.none_due))
   running_first Idle goes =
       let text = some_of (attention_text old) may.due in
       let host = goes.rest.1.0 text.0 (attention_first (port_not_polling (port_turn_on old)) text.0 text.1) in
-      let same : Some host.next ≡ Some may.descriptor = sym host.is_next ∙ may.free.is_next in
-      let one : host.next ≡ may.descriptor = cc in
-      let both : false ≡ true = sym host.not_owned ∙ ap (λ (d : Descriptor). is_owned d) one ∙ may.free.owned in
-      absurd (cc)
+      absurd (cc (host.is_next, host.not_owned, may.free.is_next, may.free.owned))
   running_first _ goes = refl
 
   running_nearer : (turn : Turn) → RunningTurn old memory turn new memory_after → ComesNearer old turn new
   running_nearer Fetched goes =
       let message = message_in old.profile goes.packet in
-      omega (
+      rw goes.others (omega (
         arith,
         goes.credit,
-        ap (λ (p : PortState). p.credits) goes.others,
-        ap (λ (p : PortState). length p.exec.pending) goes.others,
         with_message (port_turn_on old) message,
-        ap (λ (p : PortState). due_count p.guest.attentions) goes.others,
         ap due_count (flags_attentions old.profile goes.packet message old.guest),
-      )
+      ))
   running_nearer Executed goes =
       let one = goes.rest.1 in
       omega (
@@ -177,17 +138,10 @@ module _ (old : PortState) (memory : List ℕ) (new : PortState) (memory_after :
         after_end one.end old.guest,
       )
   running_nearer Notified goes =
-      let one = goes.rest.1 in
-      omega (
-        arith,
-        ap (λ (p : PortState). p.credits) one.others,
-        ap (λ (p : PortState). length p.exec.pending) one.others,
-        ap (λ (p : PortState). due_count p.guest.attentions) one.others,
-        fewer old.guest.attentions one.drive one.due,
-      )
+      let one = goes.rest.1 in rw one.others (omega (arith, fewer old.guest.attentions one.drive one.due))
   running_nearer Dead goes = tt
-  running_nearer Delivered goes = let no = running_first Delivered goes in absurd (cc)
-  running_nearer Idle goes = let no = running_first Idle goes in absurd (cc)
+  running_nearer Delivered goes = absurd (cc (running_first Delivered goes))
+  running_nearer Idle goes = absurd (cc (running_first Idle goes))
 
   runs : (turn : Turn) → TurnEffect old.phase old memory turn new memory_after
       → RunningTurn old memory turn new memory_after
@@ -203,26 +157,13 @@ module _ (old : PortState) (memory : List ℕ) (new : PortState) (memory_after :
 
 one_at_most : (b : Bool) → one_if b ≤ 1
 one_at_most true = omega arith
-one_at_most false = omega arith
+one_at_most _ = omega arith
 
 four_at_most : (xs : List Bool) → due_count xs ≤ 4
-four_at_most xs =
-    omega (
-      arith,
-      one_at_most (is_due xs 0),
-      one_at_most (is_due xs 1),
-      one_at_most (is_due xs 2),
-      one_at_most (is_due xs 3),
-    )
+four_at_most xs = omega (arith, one_at_most)
 
 pub most_turns : (port : PortState) → CreditsAgree port → turns_to_notify port ≤ MOST_TURNS_TO_NOTIFY
-most_turns port agree = by port.deliveries refl
-  where
-    by : (d : ℕ) → port.deliveries ≡ d → turns_to_notify port ≤ MOST_TURNS_TO_NOTIFY
-    by zero is =
-        omega (arith, agree.credits, agree.conserved, is, ap credits_granted is, four_at_most port.guest.attentions)
-    by (suc d) is =
-        omega (arith, agree.credits, agree.conserved, is, ap credits_granted is, four_at_most port.guest.attentions)
+most_turns port agree = omega (arith, agree.credits, agree.conserved, four_at_most port.guest.attentions)
 
 -- ---- turns one after another
 
@@ -245,6 +186,4 @@ one_nearer old new t =
 pub attention_arrives : AttentionArrives
 attention_arrives zero first last same = omega (arith, ap turns_to_notify same)
 attention_arrives (suc n) first last turns =
-    let one = one_nearer first turns.0 turns.1 in
-    let more = attention_arrives n turns.0 last turns.2 in
-    omega (arith, one, more)
+    omega (arith, one_nearer first turns.0 turns.1, attention_arrives n turns.0 last turns.2)

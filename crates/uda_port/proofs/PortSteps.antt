@@ -1,79 +1,64 @@
 -- The invariant of a port after a change of its phase.
-use Rattle.std.proofs.Common.{◌≡◌, ◌≢◌, ℕ, ◌+◌, ◌*◌, ◌≤◌, ◌<◌, ◌⊎◌, inl, inr, true, false, List, refl, sym, ap, subst, ◌∙◌, arith}
+use Rattle.std.proofs.Common.{◌≡◌, ◌≢◌, ℕ, ◌+◌, ◌*◌, ◌≤◌, ◌<◌, ◌⊎◌, inl, inr, true, false, List, Option, None, refl, sym, ap, ◌∙◌, arith}
 use Rattle.std.specs.Prelude.{not}
-use Rattle.std.proofs.lemmas.Bool.{and_from, lt-ltb, true≢false}
+use Rattle.std.proofs.lemmas.Bool.{and_from, eq-eqb, le-leb, lt-ltb}
 use Rattle.uda_packet.specs.declared.guest_end.Identity.{Identity}
 use Rattle.uda_port.specs.declared.interrupt.Interrupts.{Interrupts}
 use Rattle.uda_port.specs.declared.phase.Fatal.{Fatal}
-use Rattle.uda_port.specs.declared.phase.Fatal.TheVariants.{RingWrite, InitializationError, RingRead, PacketRead, PacketWrite, InvalidConnection, CreditsExceeded}
+use Rattle.uda_port.specs.declared.phase.Fatal.TheVariants.{RingWrite, InitializationError, RingRead, PacketRead, PacketWrite, CreditsExceeded}
 use Rattle.uda_port.specs.declared.phase.Phase.{Phase}
 use Rattle.uda_port.specs.declared.phase.Phase.TheVariants.{Step1, Step2, Step3, Wrap, PurgeTest, PollTest, Step4, Running, Dead}
 use Rattle.uda_port.specs.declared.port.Port.TheInside.{Inside}
 use Rattle.uda_port.specs.declared.profile.Profile.{Profile}
 use Rattle.uda_port.specs.declared.profile.Profile.TheVariants.{Strict, Compatible}
-use Rattle.uda_port.specs.Interrupt.{raised_by_step, raised, interrupts_asked}
-use Rattle.uda_port.specs.PortInvariant.{PortInvariant}
+use Rattle.uda_port.specs.Interrupt.{raised_by_step, raised, interrupts_asked, noted}
+use Rattle.uda_port.specs.PortInvariant.{PortInvariant, IsPossible}
 use Rattle.uda_port.specs.Port.{PortState, port_after_ip_read}
-use Rattle.uda_port.specs.Possible.{is_of_turn, has_run, has_rings, is_first_word, has_phase, CanDie, is_step_3, can_interrupt, rings_fit, addresses_by, guest_fits}
+use Rattle.uda_port.specs.Possible.{is_of_turn, has_run, has_rings, is_first_word, has_phase, CanDie, is_step_3, is_past_steps, settings_fit, is_strict_phase, is_guest_phase, can_interrupt, rings_fit, addresses_by, guest_fits, queue_fits, HasNoWork}
 use Rattle.uda_port.specs.Ring.{RingState}
 use Rattle.uda_port.specs.Startup.{has_bit, refuses_second, refuses_third, asks_test, after_sa_write}
-use Rattle.uda_port.proofs.PossibleLaws.{same_rings, same_guest, by_death, by_step, by_first_word, by_third_word, by_go, go_rings, go_guest, no_rest, rings_set}
+use Rattle.uda_port.proofs.PossibleLaws.{same_rings, same_guest, by_death, by_step, by_first_word, by_third_word, by_go, go_rings, go_guest, no_rest, by_indicator, rings_move}
+
+-- both profiles have the phase
+in_both : (profile : Profile) (phase : Phase) → is_strict_phase phase ≡ true → is_guest_phase phase ≡ true
+    → has_phase profile phase ≡ true
+in_both Strict phase strict guest = strict
+in_both _ phase strict guest = guest
+
+-- both phases allow the same interrupts
+same_interrupts : (profile : Profile) (phase next : Phase) (i : Interrupts) → settings_fit next i ≡ settings_fit phase i
+    → is_past_steps next ≡ is_past_steps phase → can_interrupt profile phase i ≡ true
+    → can_interrupt profile next i ≡ true
+same_interrupts Strict phase next i settings past is = is
+same_interrupts _ phase next i settings past is = rw (settings, past) is
 
 -- the port goes from one phase to another, in which it has the same rings and has run or not as before
-pub record StepsTo (profile : Profile) (phase next : Phase) : Type 0 where
-  pub is_phase : has_phase profile next ≡ true
-  pub rings : has_rings next ≡ has_rings phase
-  pub run : has_run next ≡ has_run phase
-
-pub steps : {S : Type 0} (p : Inside S) (next : Phase) (i : Interrupts) → StepsTo p.profile p.phase next
-    → can_interrupt p.profile next i ≡ true → PortInvariant p
-    → PortInvariant (record p { phase = next; interrupts = i })
-steps p next i to can is = record {
-  room = is.room;
-  credits = is.credits;
-  conserved = is.conserved;
-  four_units = is.four_units;
-  well_formed = is.well_formed;
-  ordered = is.ordered;
-  begun = is.begun;
-  strict = is.strict;
-  possible = record {
-    phase = to.is_phase;
-    interrupts = can;
-    rings = same_rings p.profile p.phase next p.responses p.commands to.rings to.run is.possible.rings;
-    guest = same_guest p.profile p.phase next p.guest to.run is.possible.guest;
-    queue = is.possible.queue;
-    no_work = λ not_run. is.possible.no_work (sym to.run ∙ not_run);
-  };
-}
+steps : {S : Type 0} (p : Inside S) (phase next : Phase) (i : Interrupts) → p.phase ≡ phase
+    → has_rings next ≡ has_rings phase → has_run next ≡ has_run phase
+    → (has_phase p.profile phase ≡ true → has_phase p.profile next ≡ true)
+    → (can_interrupt p.profile phase p.interrupts ≡ true → can_interrupt p.profile next i ≡ true)
+    → PortInvariant p → PortInvariant (record p { phase = next; interrupts = i })
+steps p phase next i step rings run has can is = assumption (
+  has (rw step at is.possible.phase),
+  can (rw step at is.possible.interrupts),
+  same_rings p.profile phase next p.responses p.commands rings run (rw step at is.possible.rings),
+  same_guest p.profile phase next p.guest run (rw step at is.possible.guest),
+  λ (rests : has_run next ≡ false). is.possible.no_work (ap has_run step ∙ sym run ∙ rests),
+)
 
 -- ---- death
 
 pub dies : {S : Type 0} (p : Inside S) (cause : Fatal) → CanDie p.profile p.phase cause → PortInvariant p
     → PortInvariant (record p { phase = Dead cause; interrupts = raised p.profile p.interrupts })
 dies p cause can is =
-    steps p (Dead cause) (raised p.profile p.interrupts)
-    (record { is_phase = can.fatal; rings = sym can.rings; run = sym can.ran })
-    (by_death p.profile p.phase cause p.interrupts is.possible.interrupts) is
-
--- before the third word a strict port can die of a feature that it doesn't have, and any port of its rings
-pub dies_strictly : (phase : Phase) → has_rings phase ≡ false → has_run phase ≡ false
-    → CanDie Strict phase InitializationError
-dies_strictly phase rings run = record { fatal = refl; ran = run; rings = rings }
-
-has_ring_fault : (profile : Profile) → has_phase profile (Dead RingWrite) ≡ true
-has_ring_fault Strict = refl
-has_ring_fault (Compatible identity) = refl
-
-pub dies_of_rings : (profile : Profile) (phase : Phase) → has_rings phase ≡ false → has_run phase ≡ false
-    → CanDie profile phase RingWrite
-dies_of_rings profile phase rings run = record { fatal = has_ring_fault profile; ran = run; rings = rings }
+    steps p p.phase (Dead cause) _ refl (sym can.rings) (sym can.ran) (λ _. can.fatal)
+    (by_death p.profile p.phase cause p.interrupts) is
 
 -- ---- the first word
 
 first_accepted : (profile : Profile) (word : ℕ) → is_first_word word ≡ true → has_phase profile (Step2 word) ≡ true
 first_accepted Strict word is = is
-first_accepted (Compatible identity) word is = is
+first_accepted _ word is = is
 
 pub takes_first : {S : Type 0} (p : Inside S) (word : ℕ) → p.phase ≡ Step1 → has_bit word 15 ≡ true
     → has_bit word 14 ≡ false → PortInvariant p
@@ -82,153 +67,98 @@ pub takes_first : {S : Type 0} (p : Inside S) (word : ℕ) → p.phase ≡ Step1
       interrupts = raised_by_step p.profile (interrupts_asked p.profile p.interrupts word);
     })
 takes_first p word step one two is =
-    let silent = subst (λ (q : Phase). can_interrupt p.profile q p.interrupts ≡ true) step is.possible.interrupts in
-    steps p (Step2 word) _
-    (record {
-      is_phase = first_accepted p.profile word (and_from (has_bit word 15) (not (has_bit word 14)) one (ap not two));
-      rings = sym (ap has_rings step);
-      run = sym (ap has_run step);
-    })
-    (by_step p.profile (Step2 word) (interrupts_asked p.profile p.interrupts word)
-    (by_first_word p.profile word p.interrupts silent)) is
+    steps p Step1 (Step2 word) _ step refl refl (λ _. first_accepted p.profile word (and_from _ _ one (ap not two)))
+    (λ silent. by_step p.profile (Step2 word) (interrupts_asked p.profile p.interrupts word)
+        (by_first_word p.profile word p.interrupts silent)) is
 
 -- wrap mode, which only a compatible port has
 has_wrap : (profile : Profile) (word : ℕ) (identity : Identity) → profile ≡ Compatible identity
     → has_phase profile (Wrap word) ≡ true
 has_wrap Strict word identity is = absurd (cc)
-has_wrap (Compatible other) word identity is = refl
-
-silent_in_wrap : (profile : Profile) (word : ℕ) (i : Interrupts) → can_interrupt profile Step1 i ≡ true
-    → can_interrupt profile (Wrap word) i ≡ true
-silent_in_wrap Strict word i is = is
-silent_in_wrap (Compatible identity) word i is = is
+has_wrap _ word identity is = refl
 
 pub wraps : {S : Type 0} (p : Inside S) (word : ℕ) (identity : Identity) → p.phase ≡ Step1
     → p.profile ≡ Compatible identity → PortInvariant p
     → PortInvariant (record p { phase = Wrap word })
 wraps p word identity step guest is =
-    let silent = subst (λ (q : Phase). can_interrupt p.profile q p.interrupts ≡ true) step is.possible.interrupts in
-    steps p (Wrap word) p.interrupts
-    (record {
-      is_phase = has_wrap p.profile word identity guest;
-      rings = sym (ap has_rings step);
-      run = sym (ap has_run step);
-    })
-    (silent_in_wrap p.profile word p.interrupts silent) is
+    steps p Step1 (Wrap word) _ step refl refl (λ _. has_wrap p.profile word identity guest)
+    (same_interrupts p.profile Step1 (Wrap word) p.interrupts refl refl) is
 
 wrap_again : (profile : Profile) (before word : ℕ) → has_phase profile (Wrap before) ≡ true
     → has_phase profile (Wrap word) ≡ true
 wrap_again Strict before word is = is
-wrap_again (Compatible identity) before word is = is
-
-silent_again : (profile : Profile) (before word : ℕ) (i : Interrupts) → can_interrupt profile (Wrap before) i ≡ true
-    → can_interrupt profile (Wrap word) i ≡ true
-silent_again Strict before word i is = is
-silent_again (Compatible identity) before word i is = is
+wrap_again _ before word is = is
 
 pub wraps_again : {S : Type 0} (p : Inside S) (before word : ℕ) → p.phase ≡ Wrap before → PortInvariant p
     → PortInvariant (record p { phase = Wrap word })
 wraps_again p before word step is =
-    let silent = subst (λ (q : Phase). can_interrupt p.profile q p.interrupts ≡ true) step is.possible.interrupts in
-    steps p (Wrap word) p.interrupts
-    (record {
-      is_phase = wrap_again p.profile before word (subst (λ (q : Phase). has_phase p.profile q ≡ true) step is.possible.phase);
-      rings = sym (ap has_rings step);
-      run = sym (ap has_run step);
-    })
-    (silent_again p.profile before word p.interrupts silent) is
+    steps p (Wrap before) (Wrap word) _ step refl refl (wrap_again p.profile before word)
+    (same_interrupts p.profile (Wrap before) (Wrap word) p.interrupts refl refl) is
 
 -- ---- the second word
 
 second_accepted : (profile : Profile) (first second : ℕ) → has_phase profile (Step2 first) ≡ true
     → refuses_second profile second ≡ false → has_phase profile (Step3 first second) ≡ true
-second_accepted Strict first second is taken = and_from (is_first_word first) (not (has_bit second 0)) is (ap not taken)
-second_accepted (Compatible identity) first second is taken = is
-
-same_settings : (profile : Profile) (first second : ℕ) (i : Interrupts) → can_interrupt profile (Step2 first) i ≡ true
-    → can_interrupt profile (Step3 first second) i ≡ true
-same_settings Strict first second i is = is
-same_settings (Compatible identity) first second i is = is
+second_accepted Strict first second is taken = and_from _ _ is (ap not taken)
+second_accepted _ first second is taken = is
 
 pub takes_second : {S : Type 0} (p : Inside S) (first word : ℕ) → p.phase ≡ Step2 first
     → refuses_second p.profile word ≡ false → PortInvariant p
     → PortInvariant (record p { phase = Step3 first word; interrupts = raised_by_step p.profile p.interrupts })
 takes_second p first word step taken is =
-    let asked = subst (λ (q : Phase). can_interrupt p.profile q p.interrupts ≡ true) step is.possible.interrupts in
-    let was = subst (λ (q : Phase). has_phase p.profile q ≡ true) step is.possible.phase in
-    steps p (Step3 first word) _
-    (record {
-      is_phase = second_accepted p.profile first word was taken;
-      rings = sym (ap has_rings step);
-      run = sym (ap has_run step);
-    })
-    (by_step p.profile (Step3 first word) p.interrupts (same_settings p.profile first word p.interrupts asked)) is
+    steps p (Step2 first) (Step3 first word) _ step refl refl
+    (λ was. second_accepted p.profile first word was taken)
+    (λ asked. by_step p.profile (Step3 first word) p.interrupts
+        (same_interrupts p.profile (Step2 first) (Step3 first word) p.interrupts refl refl asked)) is
 
 -- ---- the tests
 
 poll_follows : (profile : Profile) → has_phase profile PurgeTest ≡ true → has_phase profile PollTest ≡ true
 poll_follows Strict is = is
-poll_follows (Compatible identity) is = is
-
-poll_interrupts : (profile : Profile) (i : Interrupts) → can_interrupt profile PurgeTest i ≡ true
-    → can_interrupt profile PollTest i ≡ true
-poll_interrupts Strict i is = is
-poll_interrupts (Compatible identity) i is = is
+poll_follows _ is = is
 
 pub passes_purge : {S : Type 0} (p : Inside S) → p.phase ≡ PurgeTest → PortInvariant p
     → PortInvariant (record p { phase = PollTest })
 passes_purge p step is =
-    let may = subst (λ (q : Phase). can_interrupt p.profile q p.interrupts ≡ true) step is.possible.interrupts in
-    let was = subst (λ (q : Phase). has_phase p.profile q ≡ true) step is.possible.phase in
-    steps p PollTest p.interrupts
-    (record { is_phase = poll_follows p.profile was; rings = sym (ap has_rings step); run = sym (ap has_run step) })
-    (poll_interrupts p.profile p.interrupts may) is
-
-has_step_4 : (profile : Profile) → has_phase profile Step4 ≡ true
-has_step_4 Strict = refl
-has_step_4 (Compatible identity) = refl
-
-step_4_interrupts : (profile : Profile) (i : Interrupts) → can_interrupt profile PollTest i ≡ true
-    → can_interrupt profile Step4 i ≡ true
-step_4_interrupts Strict i is = is
-step_4_interrupts (Compatible identity) i is = is
+    steps p PurgeTest PollTest _ step refl refl (poll_follows p.profile)
+    (same_interrupts p.profile PurgeTest PollTest p.interrupts refl refl) is
 
 pub passes_poll : {S : Type 0} (p : Inside S) → p.phase ≡ PollTest → PortInvariant p
     → PortInvariant (record p { phase = Step4; interrupts = raised_by_step p.profile p.interrupts })
 passes_poll p step is =
-    let may = subst (λ (q : Phase). can_interrupt p.profile q p.interrupts ≡ true) step is.possible.interrupts in
-    steps p Step4 _
-    (record { is_phase = has_step_4 p.profile; rings = sym (ap has_rings step); run = sym (ap has_run step) })
-    (by_step p.profile Step4 p.interrupts (step_4_interrupts p.profile p.interrupts may)) is
+    steps p PollTest Step4 _ step refl refl (λ _. in_both p.profile Step4 refl refl)
+    (λ may. by_step p.profile Step4 p.interrupts
+        (same_interrupts p.profile PollTest Step4 p.interrupts refl refl may)) is
 
--- ---- the second and the third word ask for what a strict port doesn't have
+-- ---- before the third word a strict port can die of a feature that it doesn't have, and any port of its rings
 
 pub second_refused : (profile : Profile) (phase : Phase) (first word : ℕ) → phase ≡ Step2 first
     → refuses_second profile word ≡ true → CanDie profile phase InitializationError
 second_refused Strict phase first word step refused =
-    dies_strictly phase (ap has_rings step) (ap has_run step)
-second_refused (Compatible identity) phase first word step refused = absurd (true≢false (sym refused))
+    record { fatal = refl; ran = ap has_run step; rings = ap has_rings step }
+second_refused _ phase first word step refused = absurd (cc)
 
 pub third_refused : (profile : Profile) (phase : Phase) (first second word : ℕ) → phase ≡ Step3 first second
     → refuses_third profile word ≡ true → CanDie profile phase InitializationError
 third_refused Strict phase first second word step refused =
-    dies_strictly phase (ap has_rings step) (ap has_run step)
-third_refused (Compatible identity) phase first second word step refused = absurd (true≢false (sym refused))
+    record { fatal = refl; ran = ap has_run step; rings = ap has_rings step }
+third_refused _ phase first second word step refused = absurd (cc)
 
 pub area_refused : (profile : Profile) (phase : Phase) (first second : ℕ) → phase ≡ Step3 first second
     → CanDie profile phase RingWrite
-area_refused profile phase first second step = dies_of_rings profile phase (ap has_rings step) (ap has_run step)
+area_refused profile phase first second step =
+    record { fatal = in_both profile (Dead RingWrite) refl refl; ran = ap has_run step; rings = ap has_rings step }
 
 -- ---- the third word sets the rings
 
 third_interrupts : (profile : Profile) (phase : Phase) (i : Interrupts) → is_step_3 phase ≡ true
     → can_interrupt profile phase i ≡ true → can_interrupt profile Step4 i ≡ true
 third_interrupts profile (Step3 first second) i step is = by_third_word profile first second i is
-third_interrupts profile _ i step is = absurd (true≢false (sym step))
+third_interrupts profile _ i step is = absurd (cc)
 
 not_run_in_3 : (phase : Phase) → is_step_3 phase ≡ true → has_run phase ≡ false
-not_run_in_3 Running step = absurd (true≢false (sym step))
-not_run_in_3 (Dead cause) step = absurd (true≢false (sym step))
+not_run_in_3 Running step = absurd (cc)
+not_run_in_3 (Dead cause) step = absurd (cc)
 not_run_in_3 _ step = refl
 
 -- two rings that follow the third word
@@ -244,29 +174,20 @@ pub sets_rings : {S : Type 0} (p : Inside S) (next : Phase) (i : Interrupts) (re
     → (has_phase p.profile next ≡ true) × ((has_run next ≡ false) × (can_interrupt p.profile next i ≡ true))
     → rings_fit p.profile next responses commands ≡ true → PortInvariant p
     → PortInvariant (record p { phase = next; interrupts = i; responses = responses; commands = commands })
-sets_rings p next i responses commands step set to fit is = record {
-  room = is.room;
-  credits = is.credits;
-  conserved = is.conserved;
-  four_units = is.four_units;
-  well_formed = is.well_formed;
-  ordered = omega (arith, set.next);
-  begun = is.begun;
-  strict = is.strict;
-  possible = record {
-    phase = to.0;
-    interrupts = to.1.1;
-    rings = fit;
-    guest = same_guest p.profile p.phase next p.guest (to.1.0 ∙ sym (not_run_in_3 p.phase step)) is.possible.guest;
-    queue = is.possible.queue;
-    no_work = λ not_run. is.possible.no_work (not_run_in_3 p.phase step);
-  };
-}
+sets_rings p next i responses commands step set to fit is =
+    let ordered : responses.base ≤ commands.base = omega arith in
+    let rested = not_run_in_3 p.phase step in
+    assumption (
+      ordered,
+      same_guest p.profile p.phase next p.guest (to.1.0 ∙ sym rested) is.possible.guest,
+      λ (_ : has_run next ≡ false). is.possible.no_work rested,
+    )
 
 set_fit : (profile : Profile) (responses commands : RingState) → AreSet profile responses commands
     → rings_fit profile Step4 responses commands ≡ true
 set_fit profile responses commands set =
-    rings_set profile responses commands set.above (lt-ltb _ _ set.within) set.next set.first set.second
+    and_from _ _ (and_from _ _ (le-leb _ _ set.above) (lt-ltb _ _ set.within))
+    (and_from _ _ (eq-eqb _ _ set.next) (and_from _ _ (eq-eqb _ _ set.first) (eq-eqb _ _ set.second)))
 
 pub enters_step_4 : {S : Type 0} (p : Inside S) (responses commands : RingState) → is_step_3 p.phase ≡ true
     → AreSet p.profile responses commands → PortInvariant p
@@ -278,7 +199,7 @@ pub enters_step_4 : {S : Type 0} (p : Inside S) (responses commands : RingState)
     })
 enters_step_4 p responses commands step set is =
     sets_rings p Step4 _ responses commands step set (
-      has_step_4 p.profile,
+      in_both p.profile Step4 refl refl,
       (
         refl,
         by_step p.profile Step4 p.interrupts
@@ -289,13 +210,8 @@ enters_step_4 p responses commands step set is =
 
 -- a port that tests is compatible
 tests : (profile : Profile) (word : ℕ) → asks_test profile word ≡ true → has_phase profile PurgeTest ≡ true
-tests Strict word asks = absurd (true≢false (sym asks))
-tests (Compatible identity) word asks = refl
-
-test_interrupts : (profile : Profile) (i : Interrupts) → can_interrupt profile Step4 i ≡ true
-    → can_interrupt profile PurgeTest i ≡ true
-test_interrupts Strict i is = is
-test_interrupts (Compatible identity) i is = is
+tests Strict word asks = absurd (cc)
+tests _ word asks = refl
 
 pub enters_test : {S : Type 0} (p : Inside S) (responses commands : RingState) (word : ℕ)
     → is_step_3 p.phase ≡ true → AreSet p.profile responses commands → asks_test p.profile word ≡ true
@@ -306,7 +222,7 @@ enters_test p responses commands word step set asks is =
       tests p.profile word asks,
       (
         refl,
-        test_interrupts p.profile p.interrupts
+        same_interrupts p.profile Step4 PurgeTest p.interrupts refl refl
             (third_interrupts p.profile p.phase p.interrupts step is.possible.interrupts),
       ),
     )
@@ -314,81 +230,43 @@ enters_test p responses commands word step set asks is =
 
 -- ---- a running port
 
-pub polls : {S : Type 0} (p : Inside S) → p.phase ≡ Running → PortInvariant p → PortInvariant (record p { polling = true })
-polls p runs is = record {
-  room = is.room;
-  credits = is.credits;
-  conserved = is.conserved;
-  four_units = is.four_units;
-  well_formed = is.well_formed;
-  ordered = is.ordered;
-  begun = is.begun;
-  strict = is.strict;
-  possible = record {
-    phase = is.possible.phase;
-    interrupts = is.possible.interrupts;
-    rings = is.possible.rings;
-    guest = is.possible.guest;
-    queue = is.possible.queue;
-    no_work = λ not_run. absurd (no_rest p.phase runs not_run);
-  };
+-- A port that goes on running moves the indices of its rings only, and a ring transition may raise a request.
+pub runs_on : {S : Type 0} {p : Inside S} (indicator : Option ℕ) → PortInvariant p → p.phase ≡ Running
+    → (q : Inside S) → q.profile ≡ p.profile → q.phase ≡ p.phase → q.interrupts ≡ noted indicator p.profile p.interrupts
+    → q.responses.base ≡ p.responses.base → q.responses.count ≡ p.responses.count
+    → q.commands.base ≡ p.commands.base → guest_fits p.profile p.phase q.guest ≡ true
+    → queue_fits p.profile q.waiting.items ≡ true → IsPossible q
+runs_on {p = p} indicator is runs q profile phase notes base count other guest queue = record {
+  phase = rw (profile, phase) is.possible.phase;
+  interrupts = rw (profile, phase, notes) (by_indicator _ _ indicator _ runs is.possible.interrupts);
+  rings = rw (profile, phase) (rings_move p.profile _ p.responses p.commands q.responses q.commands runs base count other is.possible.rings);
+  guest = rw (profile, phase) guest;
+  queue = rw profile queue;
+  no_work = λ rests. absurd (no_rest _ (phase ∙ runs) rests);
 }
+
+pub polls : {S : Type 0} (p : Inside S) → p.phase ≡ Running → PortInvariant p → PortInvariant (record p { polling = true })
+polls p runs is = search (runs_on None is runs)
+
+unpolled : {S : Type 0} (p : Inside S) → IsPossible p → has_run p.phase ≡ false
+    → HasNoWork false p.deliveries p.exec.pending p.waiting.items p.exec.position
+unpolled p is rests = let none = is.no_work rests in search
 
 pub stops_polling : {S : Type 0} (p : Inside S) → PortInvariant p → PortInvariant (record p { polling = false })
-stops_polling p is = record {
-  room = is.room;
-  credits = is.credits;
-  conserved = is.conserved;
-  four_units = is.four_units;
-  well_formed = is.well_formed;
-  ordered = is.ordered;
-  begun = is.begun;
-  strict = is.strict;
-  possible = record {
-    phase = is.possible.phase;
-    interrupts = is.possible.interrupts;
-    rings = is.possible.rings;
-    guest = is.possible.guest;
-    queue = is.possible.queue;
-    no_work = λ not_run.
-        let none = is.possible.no_work not_run in
-        record {
-          not_polling = refl;
-          none_delivered = none.none_delivered;
-          none_pending = none.none_pending;
-          none_waiting = none.none_waiting;
-          at_first = none.at_first;
-        };
-  };
-}
-
-has_running : (profile : Profile) → has_phase profile Running ≡ true
-has_running Strict = refl
-has_running (Compatible identity) = refl
+stops_polling p is = search (unpolled p is.possible)
 
 pub goes : {S : Type 0} (p : Inside S) → p.phase ≡ Step4 → PortInvariant p
     → PortInvariant (record p { phase = Running })
-goes p step is = record {
-  room = is.room;
-  credits = is.credits;
-  conserved = is.conserved;
-  four_units = is.four_units;
-  well_formed = is.well_formed;
-  ordered = is.ordered;
-  begun = is.begun;
-  strict = is.strict;
-  possible = record {
-    phase = has_running p.profile;
-    interrupts = by_go p.profile p.interrupts
-        (subst (λ (q : Phase). can_interrupt p.profile q p.interrupts ≡ true) step is.possible.interrupts);
-    rings = go_rings p.profile p.responses p.commands
-        (subst (λ (q : Phase). rings_fit p.profile q p.responses p.commands ≡ true) step is.possible.rings);
-    guest = go_guest p.profile p.guest
-        (subst (λ (q : Phase). guest_fits p.profile q p.guest ≡ true) step is.possible.guest);
-    queue = is.possible.queue;
-    no_work = λ not_run. absurd (true≢false not_run);
-  };
-}
+goes p step is =
+    let never : true ≡ false → HasNoWork p.polling p.deliveries p.exec.pending p.waiting.items p.exec.position =
+    λ runs. absurd (cc) in
+    assumption (
+      in_both p.profile Running refl refl,
+      by_go p.profile p.interrupts (rw step at is.possible.interrupts),
+      go_rings p.profile p.responses p.commands (rw step at is.possible.rings),
+      go_guest p.profile p.guest (rw step at is.possible.guest),
+      never,
+    )
 
 -- ---- a read of IP that changes nothing
 
@@ -403,29 +281,14 @@ ignores_read _ old not_poll not_running = refl
 abbrev TakesNoWord : Phase → Type 0
 TakesNoWord phase = (phase ≡ PollTest) ⊎ ((phase ≡ Running) ⊎ ((cause : Fatal) × (phase ≡ Dead cause)))
 
-takes_one : (phase : Phase) → phase ≢ PollTest → phase ≢ Running → ((cause : Fatal) → phase ≢ Dead cause)
-    → TakesNoWord phase → ⊥
-takes_one phase one two three (inl is) = one is
-takes_one phase one two three (inr (inl is)) = two is
-takes_one phase one two three (inr (inr dead)) = three dead.0 dead.1
-
 pub ignores_word : (phase : Phase) (old : PortState) (memory : List ℕ) (word : ℕ) → TakesNoWord phase
     → after_sa_write phase old memory word ≡ (old, memory)
 ignores_word PollTest old memory word is = refl
 ignores_word Running old memory word is = refl
 ignores_word (Dead cause) old memory word is = refl
-ignores_word Step1 old memory word is =
-    absurd (takes_one Step1 (λ no. absurd (cc)) (λ no. absurd (cc)) (λ cause no. absurd (cc)) is)
-ignores_word (Step2 first) old memory word is =
-    absurd (takes_one (Step2 first) (λ no. absurd (cc)) (λ no. absurd (cc)) (λ cause no. absurd (cc)) is)
-ignores_word (Step3 first second) old memory word is =
-    absurd (takes_one (Step3 first second) (λ no. absurd (cc)) (λ no. absurd (cc)) (λ cause no. absurd (cc)) is)
-ignores_word (Wrap before) old memory word is =
-    absurd (takes_one (Wrap before) (λ no. absurd (cc)) (λ no. absurd (cc)) (λ cause no. absurd (cc)) is)
-ignores_word PurgeTest old memory word is =
-    absurd (takes_one PurgeTest (λ no. absurd (cc)) (λ no. absurd (cc)) (λ cause no. absurd (cc)) is)
-ignores_word Step4 old memory word is =
-    absurd (takes_one Step4 (λ no. absurd (cc)) (λ no. absurd (cc)) (λ cause no. absurd (cc)) is)
+ignores_word phase old memory word (inl is) = absurd (cc)
+ignores_word phase old memory word (inr (inl is)) = absurd (cc)
+ignores_word phase old memory word (inr (inr dead)) = absurd (cc)
 
 -- ---- the fatal errors of a turn
 
@@ -437,36 +300,16 @@ runs_into profile phase cause runs of_turn fatal = record {
   rings = ap has_rings runs ∙ sym of_turn;
 }
 
-any_ring_read : (profile : Profile) → has_phase profile (Dead RingRead) ≡ true
-any_ring_read Strict = refl
-any_ring_read (Compatible identity) = refl
-
-any_packet_read : (profile : Profile) → has_phase profile (Dead PacketRead) ≡ true
-any_packet_read Strict = refl
-any_packet_read (Compatible identity) = refl
-
-any_packet_write : (profile : Profile) → has_phase profile (Dead PacketWrite) ≡ true
-any_packet_write Strict = refl
-any_packet_write (Compatible identity) = refl
-
-any_connection : (profile : Profile) → has_phase profile (Dead InvalidConnection) ≡ true
-any_connection Strict = refl
-any_connection (Compatible identity) = refl
-
 pub reads_no_ring : (profile : Profile) (phase : Phase) → phase ≡ Running → CanDie profile phase RingRead
-reads_no_ring profile phase runs = runs_into profile phase RingRead runs refl (any_ring_read profile)
+reads_no_ring profile phase runs = runs_into profile phase RingRead runs refl (in_both profile (Dead RingRead) refl refl)
 
 pub reads_no_packet : (profile : Profile) (phase : Phase) → phase ≡ Running → CanDie profile phase PacketRead
-reads_no_packet profile phase runs = runs_into profile phase PacketRead runs refl (any_packet_read profile)
+reads_no_packet profile phase runs = runs_into profile phase PacketRead runs refl (in_both profile (Dead PacketRead) refl refl)
 
 pub writes_no_packet : (profile : Profile) (phase : Phase) → phase ≡ Running → CanDie profile phase PacketWrite
-writes_no_packet profile phase runs = runs_into profile phase PacketWrite runs refl (any_packet_write profile)
-
-pub finds_no_connection : (profile : Profile) (phase : Phase) → phase ≡ Running
-    → CanDie profile phase InvalidConnection
-finds_no_connection profile phase runs = runs_into profile phase InvalidConnection runs refl (any_connection profile)
+writes_no_packet profile phase runs = runs_into profile phase PacketWrite runs refl (in_both profile (Dead PacketWrite) refl refl)
 
 pub exceeds_credits : (profile : Profile) (phase : Phase) → phase ≡ Running → profile ≡ Strict
     → CanDie profile phase CreditsExceeded
 exceeds_credits profile phase runs strict =
-    runs_into profile phase CreditsExceeded runs refl (ap (λ (p : Profile). has_phase p (Dead CreditsExceeded)) strict)
+    runs_into profile phase CreditsExceeded runs refl (rw strict refl)

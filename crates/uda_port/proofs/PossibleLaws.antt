@@ -1,6 +1,6 @@
 -- What keeps a port's state possible.
-use Rattle.std.proofs.Common.{◌≡◌, ℕ, ◌+◌, ◌*◌, ◌%◌, ◌<◌, ◌≤◌, ◌==◌, zero, suc, Bool, true, false, ◌&&◌, ◌||◌, List, [], ◌∷◌, ◌++◌, refl, sym, ap, subst, ◌∙◌, arith}
-use Rattle.std.specs.Prelude.{if◌then◌else◌, not, nat_lt, nat_le, set, drop, get_or, length, Option, Some, None, IfSome, is_some, option_map, Result, Ok, Err}
+use Rattle.std.proofs.Common.{◌≡◌, ℕ, ◌+◌, ◌*◌, ◌%◌, ◌<◌, ◌≤◌, ◌==◌, zero, suc, Bool, true, false, ◌&&◌, ◌||◌, List, [], ◌∷◌, ◌++◌, refl, sym, ap, ◌∙◌, add-one, arith}
+use Rattle.std.specs.Prelude.{if◌then◌else◌, not, nat_lt, nat_le, set, drop, get_or, length, Option, Some, None, IfSome, is_some, Result, Ok, Err}
 use Rattle.std.proofs.lemmas.Bool.{and_parts, and_from, or_right, le-leb, leb-true, ltb-true, eqb-true, eq-eqb, true≢false}
 use Rattle.uda_exec.specs.Saved.{same_flag}
 use Rattle.uda_exec.specs.declared.scheduler.Position.{Position}
@@ -21,7 +21,7 @@ use Rattle.uda_port.specs.AtOnce.{replies_at_once}
 use Rattle.uda_port.specs.declared.packet.Fetched.{Fetched}
 use Rattle.uda_port.specs.Message.{message_in, flags_kept}
 use Rattle.uda_port.specs.Port.{expects_attention}
-use Rattle.uda_port.specs.Report.{attention_by, attention_of, available_text, unit_report}
+use Rattle.uda_port.specs.Report.{attention_by, available_text, unit_report}
 use Rattle.uda_packet.specs.declared.guest_end.UnitReport.{UnitReport}
 use Rattle.uda_disk.specs.Units.{Units}
 use Rattle.uda_port.proofs.TurnLaws.{strict_executes}
@@ -29,12 +29,12 @@ use Rattle.uda_port.specs.declared.guest.Guest.{Guest}
 use Rattle.uda_port.specs.declared.interrupt.Interrupts.{Interrupts}
 use Rattle.uda_port.specs.declared.phase.Fatal.{Fatal}
 use Rattle.uda_port.specs.declared.phase.Phase.{Phase}
-use Rattle.uda_port.specs.declared.phase.Phase.TheVariants.{Step1, Step2, Step3, Wrap, PurgeTest, PollTest, Step4, Running, Dead}
+use Rattle.uda_port.specs.declared.phase.Phase.TheVariants.{Step1, Step2, Step3, Wrap, Step4, Running, Dead}
 use Rattle.uda_port.specs.declared.profile.Profile.{Profile}
 use Rattle.uda_port.specs.declared.profile.Profile.TheVariants.{Strict, Compatible}
 use Rattle.uda_port.specs.Guest.{GUEST_AT_FIRST, guest_restarted, attention_set, guest_after, is_online_now, first_due}
 use Rattle.uda_port.specs.Interrupt.{NO_INTERRUPTS, interrupts_asked, has_vector, raised, raised_by_step, noted, served, vector_of, IsVectorAddress}
-use Rattle.uda_port.specs.Possible.{has_run, has_rings, has_phase, is_vector, are_asked_by, settings_fit, is_past_steps, may_request, can_interrupt, is_base_by, is_next_to, are_unused, rings_fit, addresses_by, none_due, is_guest_running, guest_fits, is_basic_body, are_basic, queue_fits, is_first_position}
+use Rattle.uda_port.specs.Possible.{has_run, has_rings, has_phase, is_vector, are_asked_by, settings_fit, is_past_steps, can_interrupt, is_silent, is_base_by, is_next_to, rings_fit, none_due, is_guest_running, guest_fits, is_basic_body, are_basic, queue_fits, is_first_position}
 use Rattle.uda_port.specs.Ring.{RingState}
 use Rattle.uda_port.specs.Startup.{has_bit}
 
@@ -42,40 +42,36 @@ use Rattle.uda_port.specs.Startup.{has_bit}
 
 pub starts_phase : (profile : Profile) → has_phase profile Step1 ≡ true
 starts_phase Strict = refl
-starts_phase (Compatible identity) = refl
+starts_phase _ = refl
 
 pub starts_interrupts : (profile : Profile) → can_interrupt profile Step1 NO_INTERRUPTS ≡ true
 starts_interrupts Strict = refl
-starts_interrupts (Compatible identity) = refl
-
-no_guest : (profile : Profile) (phase : Phase) (rest : Bool) → rest ≡ true → (is_guest_running profile phase || rest) ≡ true
-no_guest profile phase rest is = or_right (is_guest_running profile phase) rest is
+starts_interrupts _ = refl
 
 pub starts_guest : (profile : Profile) → guest_fits profile Step1 GUEST_AT_FIRST ≡ true
-starts_guest profile = no_guest profile Step1 _ refl
+starts_guest profile = or_right (is_guest_running profile Step1) _ refl
 
 pub restarts_guest : (profile : Profile) (guest : Guest) → guest_fits profile Step1 (guest_restarted guest) ≡ true
-restarts_guest profile guest = no_guest profile Step1 _ refl
+restarts_guest profile guest = or_right (is_guest_running profile Step1) _ refl
 
 pub starts_queue : (profile : Profile) → queue_fits profile [] ≡ true
 starts_queue Strict = refl
-starts_queue (Compatible identity) = refl
+starts_queue _ = refl
 
 -- ---- interrupts
 
 -- raised requests of silent settings, and of others
 silent_raised : (e q : Bool) (v : ℕ) → (not e && ((v == 0) && not q)) ≡ true
     → (not e && ((v == 0) && not (q || (e && nat_lt 0 v)))) ≡ true
-silent_raised true q v is = absurd (true≢false (sym is))
-silent_raised false true v is = absurd (true≢false (sym (and_parts (v == 0) false is).1))
+silent_raised true q v is = absurd (cc)
+silent_raised false true v is = is
 silent_raised false false v is = is
 
 may_by_step : (e q v past : Bool) → (not q || (v && (e || past))) ≡ true
     → (not (q || (e && v)) || (v && (e || past))) ≡ true
 may_by_step e true v past is = is
 may_by_step true false true past is = refl
-may_by_step true false false past is = refl
-may_by_step false false v past is = refl
+may_by_step _ _ _ past is = refl
 
 may_by_event : (e q v : Bool) → (not q || (v && (e || true))) ≡ true
     → (not (q || v) || (v && (e || true))) ≡ true
@@ -86,10 +82,9 @@ may_by_event e false false is = refl
 
 -- a request that could be pending can still be when more can have raised it
 may_later : (e q v past : Bool) → (not q || (v && (e || past))) ≡ true → (not q || (v && (e || true))) ≡ true
-may_later e false v past is = refl
 may_later e true false past is = is
 may_later true true true past is = refl
-may_later false true true past is = refl
+may_later _ _ _ past is = refl
 
 settings_by_step : (phase : Phase) (e q : Bool) (v : ℕ)
     → settings_fit phase (record { enabled = e; vector = v; requested = q }) ≡ true
@@ -102,124 +97,108 @@ settings_by_step _ e q v is = is
 pub by_step : (profile : Profile) (phase : Phase) (i : Interrupts) → can_interrupt profile phase i ≡ true
     → can_interrupt profile phase (raised_by_step profile i) ≡ true
 by_step Strict phase i is = is
-by_step (Compatible identity) phase i is =
-    let parts = and_parts (settings_fit phase i) (not i.requested || may_request phase i) is in
+by_step _ phase i is =
+    let parts = and_parts (settings_fit phase i) _ is in
     and_from _ _ (settings_by_step phase i.enabled i.requested i.vector parts.0)
     (may_by_step i.enabled i.requested (has_vector i) (is_past_steps phase) parts.1)
 
 -- a running port may raise one, and so may a port that dies
-pub by_event : (profile : Profile) (phase : Phase) (i : Interrupts) → phase ≡ Running
-    → can_interrupt profile phase i ≡ true → can_interrupt profile phase (raised profile i) ≡ true
-by_event Strict phase i runs is = is
-by_event (Compatible identity) phase i runs is =
-    let is-now : can_interrupt (Compatible identity) Running i ≡ true =
-    subst (λ (p : Phase). can_interrupt (Compatible identity) p i ≡ true) runs is in
-    let parts = and_parts (is_vector i.vector) (not i.requested || may_request Running i) is-now in
-    subst (λ (p : Phase). can_interrupt (Compatible identity) p (raised (Compatible identity) i) ≡ true) (sym runs)
-    (and_from _ _ parts.0 (may_by_event i.enabled i.requested (has_vector i) parts.1))
-
 pub by_indicator : (profile : Profile) (phase : Phase) (indicator : Option ℕ) (i : Interrupts) → phase ≡ Running
     → can_interrupt profile phase i ≡ true → can_interrupt profile phase (noted indicator profile i) ≡ true
 by_indicator profile phase None i runs is = is
-by_indicator profile phase (Some at) i runs is = by_event profile phase i runs is
+by_indicator Strict phase (Some at) i runs is = is
+by_indicator _ phase (Some at) i runs is =
+    let parts = and_parts (is_vector i.vector) _ (rw runs at is) in
+    rw runs (and_from _ _ parts.0 (may_by_event i.enabled i.requested (has_vector i) parts.1))
 
 -- the vector of any settings
-silent_vector : (e q : Bool) (v : ℕ) → (not e && ((v == 0) && not q)) ≡ true → is_vector v ≡ true
-silent_vector e q v is =
-    let none : v ≡ 0 = eqb-true _ _ (and_parts (v == 0) (not q) (and_parts (not e) _ is).1).0 in
-    subst (λ (n : ℕ). is_vector n ≡ true) (sym none) refl
+silent_vector : (i : Interrupts) → is_silent i ≡ true → is_vector i.vector ≡ true
+silent_vector i is =
+    let none : i.vector ≡ 0 = eqb-true _ _ (and_parts (i.vector == 0) _ (and_parts (not i.enabled) _ is).1).0 in
+    rw none refl
 
-quadruple : (k v : ℕ) → k < 128 → v ≡ 4 * k → is_vector v ≡ true
-quadruple k v few is =
-    and_from (v % 4 == 0) (nat_le v 0x1FC) (eq-eqb (v % 4) 0 (omega (arith, is))) (le-leb v 0x1FC (omega (arith, is, few)))
+asked_vector : (first : ℕ) (i : Interrupts) → are_asked_by first i ≡ true → is_vector i.vector ≡ true
+asked_vector first i is =
+    let four : i.vector ≡ 4 * (first % 0x80) = eqb-true _ _ (and_parts (same_flag i.enabled (has_bit first 7)) _ is).1 in
+    and_from (i.vector % 4 == 0) (nat_le i.vector 0x1FC) (eq-eqb _ _ (omega arith)) (le-leb _ _ (omega arith))
 
-asked_vector : (first : ℕ) (e q : Bool) (v : ℕ)
-    → (same_flag e (has_bit first 7) && (v == 4 * (first % 0x80))) ≡ true → is_vector v ≡ true
-asked_vector first e q v is =
-    quadruple (first % 0x80) v (omega arith) (eqb-true _ _ (and_parts (same_flag e (has_bit first 7)) _ is).1)
-
-pub has_vector_form : (phase : Phase) (i : Interrupts) → settings_fit phase i ≡ true → is_vector i.vector ≡ true
-has_vector_form Step1 i is = silent_vector i.enabled i.requested i.vector is
-has_vector_form (Wrap word) i is = silent_vector i.enabled i.requested i.vector is
-has_vector_form (Step2 first) i is = asked_vector first i.enabled i.requested i.vector is
-has_vector_form (Step3 first second) i is = asked_vector first i.enabled i.requested i.vector is
+has_vector_form : (phase : Phase) (i : Interrupts) → settings_fit phase i ≡ true → is_vector i.vector ≡ true
+has_vector_form Step1 i is = silent_vector i is
+has_vector_form (Wrap word) i is = silent_vector i is
+has_vector_form (Step2 first) i is = asked_vector first i is
+has_vector_form (Step3 first second) i is = asked_vector first i is
 has_vector_form _ i is = is
 
 -- a port that dies
 pub by_death : (profile : Profile) (phase : Phase) (cause : Fatal) (i : Interrupts)
     → can_interrupt profile phase i ≡ true → can_interrupt profile (Dead cause) (raised profile i) ≡ true
 by_death Strict phase cause i is = is
-by_death (Compatible identity) phase cause i is =
-    let parts = and_parts (settings_fit phase i) (not i.requested || may_request phase i) is in
+by_death _ phase cause i is =
+    let parts = and_parts (settings_fit phase i) _ is in
     let later = may_later i.enabled i.requested (has_vector i) (is_past_steps phase) parts.1 in
     and_from _ _ (has_vector_form phase i parts.0) (may_by_event i.enabled i.requested (has_vector i) later)
 
 -- the first word has asked for interrupts
 same : (flag : Bool) → same_flag flag flag ≡ true
 same true = refl
-same false = refl
+same _ = refl
 
 pub by_first_word : (profile : Profile) (first : ℕ) (i : Interrupts) → can_interrupt profile Step1 i ≡ true
     → can_interrupt profile (Step2 first) (interrupts_asked profile i first) ≡ true
 by_first_word Strict first i is = is
-by_first_word (Compatible identity) first i is =
+by_first_word _ first i is =
     and_from _ _ (and_from _ _ (same (has_bit first 7)) (eq-eqb _ _ refl)) refl
 
 -- the third word ends the steps that have it
 pub by_third_word : (profile : Profile) (first second : ℕ) (i : Interrupts)
     → can_interrupt profile (Step3 first second) i ≡ true → can_interrupt profile Step4 i ≡ true
 by_third_word Strict first second i is = is
-by_third_word (Compatible identity) first second i is =
-    let parts = and_parts (are_asked_by first i) (not i.requested || may_request Step4 i) is in
+by_third_word _ first second i is =
+    let parts = and_parts (are_asked_by first i) _ is in
     and_from _ _ (has_vector_form (Step3 first second) i parts.0) parts.1
 
 pub by_go : (profile : Profile) (i : Interrupts) → can_interrupt profile Step4 i ≡ true
     → can_interrupt profile Running i ≡ true
 by_go Strict i is = is
-by_go (Compatible identity) i is =
-    let parts = and_parts (is_vector i.vector) (not i.requested || may_request Step4 i) is in
+by_go _ i is =
+    let parts = and_parts (is_vector i.vector) _ is in
     and_from _ _ parts.0 (may_later i.enabled i.requested (has_vector i) false parts.1)
 
 -- the emulator takes the request
-silent_served : (e q : Bool) (v : ℕ) → (not e && ((v == 0) && not q)) ≡ true
-    → (not e && ((v == 0) && not false)) ≡ true
-silent_served e q v is =
-    let parts = and_parts (not e) ((v == 0) && not q) is in
-    and_from _ _ parts.0 (and_from _ _ (and_parts (v == 0) (not q) parts.1).0 refl)
+silent_served : (i : Interrupts) → is_silent i ≡ true → is_silent (served i) ≡ true
+silent_served i is =
+    let parts = and_parts (not i.enabled) _ is in
+    and_from _ _ parts.0 (and_from _ _ (and_parts (i.vector == 0) _ parts.1).0 refl)
 
 settings_served : (phase : Phase) (i : Interrupts) → settings_fit phase i ≡ true
     → settings_fit phase (served i) ≡ true
-settings_served Step1 i is = silent_served i.enabled i.requested i.vector is
-settings_served (Wrap word) i is = silent_served i.enabled i.requested i.vector is
+settings_served Step1 i is = silent_served i is
+settings_served (Wrap word) i is = silent_served i is
 settings_served _ i is = is
 
-pub by_service : (profile : Profile) (phase : Phase) (i : Interrupts) → can_interrupt profile phase i ≡ true
-    → can_interrupt profile phase (served i) ≡ true
-by_service Strict phase i is = silent_served i.enabled i.requested i.vector is
-by_service (Compatible identity) phase i is =
-    and_from _ _ (settings_served phase i (and_parts (settings_fit phase i) _ is).0) refl
+pub by_service : (profile : Profile) (phase : Phase) (old new : Interrupts) → new ≡ served old
+    → can_interrupt profile phase old ≡ true → can_interrupt profile phase new ≡ true
+by_service Strict phase old new now is = rw now (silent_served old is)
+by_service _ phase old new now is =
+    rw now (and_from _ _ (settings_served phase old (and_parts (settings_fit phase old) _ is).0) refl)
 
 -- the vector of a request that can be pending
 is_address : (v : ℕ) → is_vector v ≡ true → 0 < v → IsVectorAddress v
 is_address v is some =
-    let parts = and_parts (v % 4 == 0) (nat_le v 0x1FC) is in
+    let parts = and_parts (v % 4 == 0) _ is in
     let aligned : v % 4 ≡ 0 = eqb-true _ _ parts.0 in
     let within : v ≤ 0x1FC = leb-true _ _ parts.1 in
     record { aligned = aligned; least = omega (arith, aligned, some); within = within }
 
-positive_by : (q v past : Bool) → q ≡ true → (not q || (v && past)) ≡ true → v ≡ true
-positive_by true v past is may = (and_parts v past may).0
-positive_by false v past is may = absurd (true≢false (sym is))
-
-pub requested_address : (profile : Profile) (phase : Phase) (i : Interrupts) → can_interrupt profile phase i ≡ true
+requested_address : (profile : Profile) (phase : Phase) (i : Interrupts) → can_interrupt profile phase i ≡ true
     → i.requested ≡ true → IsVectorAddress i.vector
 requested_address Strict phase i is requested =
-    let none = (and_parts (i.vector == 0) (not i.requested) (and_parts (not i.enabled) _ is).1).1 in
+    let none = (and_parts (i.vector == 0) _ (and_parts (not i.enabled) _ is).1).1 in
     absurd (true≢false (sym none ∙ ap not requested))
-requested_address (Compatible identity) phase i is requested =
-    let parts = and_parts (settings_fit phase i) (not i.requested || may_request phase i) is in
+requested_address _ phase i is requested =
+    let parts = and_parts (settings_fit phase i) _ is in
     is_address i.vector (has_vector_form phase i parts.0)
-    (ltb-true _ _ (positive_by i.requested (has_vector i) (i.enabled || is_past_steps phase) requested parts.1))
+    (ltb-true _ _ (and_parts (has_vector i) _ (rw requested at parts.1)).0)
 
 address_by : (q : Bool) (v : ℕ) → (q ≡ true → IsVectorAddress v)
     → IfSome (if q then Some v else None) (λ (vector : ℕ). IsVectorAddress vector)
@@ -237,65 +216,50 @@ pub same_rings : (profile : Profile) (phase next : Phase) (responses commands : 
     → rings_fit profile phase responses commands ≡ true → rings_fit profile next responses commands ≡ true
 same_rings profile phase next responses commands rings run is = rw (rings, run) is
 
-same_guest_by : (profile : Profile) (phase next : Phase) (rest : Bool) → has_run next ≡ has_run phase
-    → (is_guest_running profile phase || rest) ≡ true → (is_guest_running profile next || rest) ≡ true
-same_guest_by Strict phase next rest run is = is
-same_guest_by (Compatible identity) phase next rest run is = rw run is
-
 pub same_guest : (profile : Profile) (phase next : Phase) (guest : Guest) → has_run next ≡ has_run phase
     → guest_fits profile phase guest ≡ true → guest_fits profile next guest ≡ true
-same_guest profile phase next guest run is = same_guest_by profile phase next _ run is
+same_guest Strict phase next guest run is = is
+same_guest _ phase next guest run is = rw run is
 
 -- the go bit starts the port
 pub go_rings : (profile : Profile) (responses commands : RingState)
     → rings_fit profile Step4 responses commands ≡ true → rings_fit profile Running responses commands ≡ true
 go_rings profile responses commands is =
-    let parts = and_parts (is_base_by profile responses.base) (is_next_to responses commands && are_unused responses commands) is in
+    let parts = and_parts (is_base_by profile responses.base) _ is in
     and_from _ _ parts.0 (and_from _ _ (and_parts (is_next_to responses commands) _ parts.1).0 refl)
 
 pub go_guest : (profile : Profile) (guest : Guest) → guest_fits profile Step4 guest ≡ true
     → guest_fits profile Running guest ≡ true
 go_guest Strict guest is = is
-go_guest (Compatible identity) guest is = refl
+go_guest _ guest is = refl
 
 -- the rings of a running port move their indices only
 pub rings_move : (profile : Profile) (phase : Phase) (a b c d : RingState) → phase ≡ Running → c.base ≡ a.base
     → c.count ≡ a.count → d.base ≡ b.base → rings_fit profile phase a b ≡ true → rings_fit profile phase c d ≡ true
 rings_move profile phase a b c d runs base count other is =
-    let now : rings_fit profile Running a b ≡ true = subst (λ (p : Phase). rings_fit profile p a b ≡ true) runs is in
-    let parts = and_parts (is_base_by profile a.base) (is_next_to a b && true) now in
-    let next : b.base ≡ a.base + 4 * a.count = eqb-true _ _ (and_parts (is_next_to a b) true parts.1).0 in
-    let moved : d.base ≡ c.base + 4 * c.count = other ∙ next ∙ sym (ap (λ (x : ℕ). x + 4 * c.count) base ∙ ap (λ (n : ℕ). a.base + 4 * n) count) in
-    let at : is_base_by profile c.base ≡ true = subst (λ (x : ℕ). is_base_by profile x ≡ true) (sym base) parts.0 in
-    subst (λ (p : Phase). rings_fit profile p c d ≡ true) (sym runs)
-    (and_from _ _ at (and_from _ _ (eq-eqb _ _ moved) refl))
-
--- the third word sets the rings
-pub rings_set : (profile : Profile) (responses commands : RingState) → 4 ≤ responses.base
-    → nat_lt responses.base (addresses_by profile) ≡ true
-    → commands.base ≡ responses.base + 4 * responses.count → responses.place ≡ 0 → commands.place ≡ 0
-    → rings_fit profile Step4 responses commands ≡ true
-rings_set profile responses commands above within next first second =
-    and_from _ _ (and_from _ _ (le-leb _ _ above) within)
-    (and_from _ _ (eq-eqb _ _ next) (and_from _ _ (eq-eqb _ _ first) (eq-eqb _ _ second)))
+    let parts = and_parts (is_base_by profile a.base) _ (rw runs at is) in
+    let next : b.base ≡ a.base + 4 * a.count = eqb-true _ _ (and_parts (is_next_to a b) _ parts.1).0 in
+    let moved : d.base ≡ c.base + 4 * c.count = rw (base, count) (other ∙ next) in
+    let at : is_base_by profile c.base ≡ true = rw base parts.0 in
+    rw runs (and_from _ _ at (and_from _ _ (eq-eqb _ _ moved) refl))
 
 -- ---- attention messages
 
-pub none_due_without : (attentions : List Bool) (drive : ℕ) → none_due attentions ≡ true
+none_due_without : (attentions : List Bool) (drive : ℕ) → none_due attentions ≡ true
     → none_due (set attentions drive false) ≡ true
 none_due_without [] drive is = refl
-none_due_without (due ∷ more) zero is = (and_parts (not due) (none_due more) is).1
+none_due_without (due ∷ more) zero is = (and_parts (not due) _ is).1
 none_due_without (due ∷ more) (suc drive) is =
-    let parts = and_parts (not due) (none_due more) is in
+    let parts = and_parts (not due) _ is in
     and_from _ _ parts.0 (none_due_without more drive parts.1)
 
 -- ---- end messages
 
-pub are_basic_more : (old : List Reply) (r : Reply) → are_basic old ≡ true → is_basic_body r.body ≡ true
+are_basic_more : (old : List Reply) (r : Reply) → are_basic old ≡ true → is_basic_body r.body ≡ true
     → are_basic (old ++ r ∷ []) ≡ true
 are_basic_more [] r old-are is = and_from _ _ is refl
 are_basic_more (first ∷ rest) r old-are is =
-    let parts = and_parts (is_basic_body first.body) (are_basic rest) old-are in
+    let parts = and_parts (is_basic_body first.body) _ old-are in
     and_from _ _ parts.0 (are_basic_more rest r parts.1 is)
 
 -- the queue from an index on
@@ -309,60 +273,44 @@ pub passes_basic : (xs : List Reply) (i : ℕ) (default : Reply) → i < length 
     → is_basic_body (get_or xs i default).body ≡ true → are_basic (drop i xs) ≡ are_basic xs
     → are_basic (drop (i + 1) xs) ≡ are_basic xs
 passes_basic xs i default less basic so_far =
-    let next : i + 1 ≡ suc i = omega arith in
-    let rest = ap (λ (b : Bool). b && are_basic (drop (suc i) xs)) basic in
-    ap (λ (k : ℕ). are_basic (drop k xs)) next ∙ sym (basic_from xs i default less ∙ rest) ∙ so_far
+    sym (basic_from xs i default less ∙ rw (basic, add-one) refl) ∙ so_far
 
 pub fails_basic : (xs : List Reply) (i : ℕ) (default : Reply) → i < length xs
     → is_basic_body (get_or xs i default).body ≡ false → are_basic (drop i xs) ≡ are_basic xs
     → false ≡ are_basic xs
-fails_basic xs i default less other so_far =
-    let rest = ap (λ (b : Bool). b && are_basic (drop (suc i) xs)) other in
-    sym (basic_from xs i default less ∙ rest) ∙ so_far
+fails_basic xs i default less other so_far = sym (basic_from xs i default less ∙ rw other refl) ∙ so_far
 
 -- ---- the first position
 
-abbrev position_at : ℕ → ℕ → Position
-position_at unit lbn = record { unit = unit; lbn = lbn }
-
-position_of : (unit lbn : ℕ) → ((unit == 0) && (lbn == 0)) ≡ true → position_at unit lbn ≡ FIRST_POSITION
-position_of unit lbn is =
-    let parts = and_parts (unit == 0) (lbn == 0) is in
-    let u : unit ≡ 0 = eqb-true _ _ parts.0 in
-    let l : lbn ≡ 0 = eqb-true _ _ parts.1 in
-    ap (λ (n : ℕ). position_at n lbn) u ∙ ap (λ (n : ℕ). position_at 0 n) l
-
 pub first_position : (p : Position) → is_first_position p ≡ true → p ≡ FIRST_POSITION
-first_position p is = position_of p.unit p.lbn is
+first_position p is =
+    let parts = and_parts (p.unit == 0) _ is in
+    let unit : p.unit ≡ 0 = eqb-true _ _ parts.0 in
+    let lbn : p.lbn ≡ 0 = eqb-true _ _ parts.1 in
+    let at : ◌≡◌ {A = Position} (record { unit = p.unit; lbn = p.lbn }) FIRST_POSITION = rw (unit, lbn) refl in
+    at
 
 -- ---- a running port
 
 pub no_rest : (phase : Phase) → phase ≡ Running → has_run phase ≡ false → ⊥
 no_rest phase runs is = true≢false (sym (ap has_run runs) ∙ is)
 
-fits_running : (identity : Identity) (phase : Phase) (guest : Guest) → phase ≡ Running
-    → guest_fits (Compatible identity) phase guest ≡ true
-fits_running identity phase guest runs =
-    subst (λ (p : Phase). guest_fits (Compatible identity) p guest ≡ true) (sym runs) refl
-
 pub flags_fit : (profile : Profile) (phase : Phase) (p : Fetched) (m : Result GuestCommand Reply) (guest : Guest)
     → phase ≡ Running → guest_fits profile phase guest ≡ true
     → guest_fits profile phase (flags_kept profile p m guest) ≡ true
 flags_fit Strict phase p m guest runs is = is
-flags_fit (Compatible identity) phase p m guest runs is =
-    fits_running identity phase (flags_kept (Compatible identity) p m guest) runs
+flags_fit _ phase p m guest runs is = rw runs refl
 
 unset_by : (runs : Bool) (guest : Guest) (drive : ℕ) → (runs || ((guest.flags == 0) && none_due guest.attentions)) ≡ true
     → (runs || ((guest.flags == 0) && none_due (set guest.attentions drive false))) ≡ true
 unset_by true guest drive is = refl
-unset_by false guest drive is =
-    let parts = and_parts (guest.flags == 0) (none_due guest.attentions) is in
+unset_by _ guest drive is =
+    let parts = and_parts (guest.flags == 0) _ is in
     and_from _ _ parts.0 (none_due_without guest.attentions drive parts.1)
 
 unset_fits : (profile : Profile) (phase : Phase) (guest : Guest) (drive : ℕ) → guest_fits profile phase guest ≡ true
     → guest_fits profile phase (attention_set guest drive false) ≡ true
-unset_fits Strict phase guest drive is = unset_by false guest drive is
-unset_fits (Compatible identity) phase guest drive is = unset_by (has_run phase) guest drive is
+unset_fits profile phase guest drive is = unset_by (is_guest_running profile phase) guest drive is
 
 after_by : (online : Bool) (profile : Profile) (phase : Phase) (guest : Guest) (drive : ℕ)
     → guest_fits profile phase guest ≡ true
@@ -375,27 +323,12 @@ pub after_fits : (profile : Profile) (phase : Phase) (e : Reply) (guest : Guest)
 after_fits profile phase e guest is = after_by (is_online_now e) profile phase guest e.unit is
 
 -- an attached drive
-drive_by : (there : Bool) (profile : Profile) (phase : Phase) (guest : Guest) (drive : ℕ)
-    → guest_fits profile phase guest ≡ true
-    → guest_fits profile phase (attention_set guest drive (there && expects_attention profile phase guest.flags)) ≡ true
-drive_by false profile phase guest drive is = unset_fits profile phase guest drive is
-drive_by true Strict phase guest drive is = unset_fits Strict phase guest drive is
-drive_by true (Compatible identity) Running guest drive is = refl
-drive_by true (Compatible identity) Step1 guest drive is = unset_fits (Compatible identity) Step1 guest drive is
-drive_by true (Compatible identity) (Step2 first) guest drive is = unset_fits (Compatible identity) (Step2 first) guest drive is
-drive_by true (Compatible identity) (Step3 first second) guest drive is =
-    unset_fits (Compatible identity) (Step3 first second) guest drive is
-drive_by true (Compatible identity) (Wrap word) guest drive is = unset_fits (Compatible identity) (Wrap word) guest drive is
-drive_by true (Compatible identity) PurgeTest guest drive is = unset_fits (Compatible identity) PurgeTest guest drive is
-drive_by true (Compatible identity) PollTest guest drive is = unset_fits (Compatible identity) PollTest guest drive is
-drive_by true (Compatible identity) Step4 guest drive is = unset_fits (Compatible identity) Step4 guest drive is
-drive_by true (Compatible identity) (Dead cause) guest drive is =
-    unset_fits (Compatible identity) (Dead cause) guest drive is
-
 pub drive_fits : (profile : Profile) (phase : Phase) (guest : Guest) (drive : ℕ) (there : Bool)
     → guest_fits profile phase guest ≡ true
     → guest_fits profile phase (attention_set guest drive (there && expects_attention profile phase guest.flags)) ≡ true
-drive_fits profile phase guest drive there is = drive_by there profile phase guest drive is
+drive_fits profile phase guest drive false is = unset_fits profile phase guest drive is
+drive_fits (Compatible identity) Running guest drive true is = refl
+drive_fits profile phase guest drive true is = unset_fits profile phase guest drive is
 
 pub unset_by_set : (profile : Profile) (phase : Phase) (old new : Guest) (drive : ℕ)
     → new ≡ attention_set old drive false → guest_fits profile phase old ≡ true → guest_fits profile phase new ≡ true
@@ -406,42 +339,34 @@ unset_by_set profile phase old new drive set is = rw set (unset_fits profile pha
 pub queue_more : (profile : Profile) (old : List Reply) (r : Reply) → (profile ≡ Strict → is_basic_body r.body ≡ true)
     → queue_fits profile old ≡ true → queue_fits profile (old ++ r ∷ []) ≡ true
 queue_more Strict old r basic is = are_basic_more old r is (basic refl)
-queue_more (Compatible identity) old r basic is = refl
+queue_more _ old r basic is = refl
 
 pub queue_answered : (profile : Profile) (old : List Reply) (r : Reply) (exec : ExecState)
     → (profile ≡ Strict → is_basic_body r.body ≡ true) → queue_fits profile old ≡ true
     → queue_fits profile (old ++ replies_at_once profile r exec) ≡ true
 queue_answered Strict old r exec basic is = are_basic_more old r is (basic refl)
-queue_answered (Compatible identity) old r exec basic is = refl
-
-less_by : (profile : Profile) (first : Reply) (rest : List Reply) → queue_fits profile (first ∷ rest) ≡ true
-    → queue_fits profile rest ≡ true
-less_by Strict first rest is = (and_parts (is_basic_body first.body) (are_basic rest) is).1
-less_by (Compatible identity) first rest is = refl
+queue_answered _ old r exec basic is = refl
 
 pub queue_less : (profile : Profile) (old : List Reply) (first : Reply) (rest : List Reply) → old ≡ first ∷ rest
     → queue_fits profile old ≡ true → queue_fits profile rest ≡ true
-queue_less profile old first rest are is =
-    less_by profile first rest (subst (λ (xs : List Reply). queue_fits profile xs ≡ true) are is)
+queue_less Strict old first rest are is = (and_parts (is_basic_body first.body) _ (rw are at is)).1
+queue_less _ old first rest are is = refl
 
 -- the end message of an invalid command
 basic_of : (e : End) (r : Reply) → basic_reply e ≡ r → is_basic_body r.body ≡ true
-basic_of e r is = subst (λ (x : Reply). is_basic_body x.body ≡ true) is refl
-
-err_of : (a b : Reply) → ◌≡◌ {A = Result GuestCommand Reply} (Err a) (Err b) → a ≡ b
-err_of a b is = cc
+basic_of e r is = rw (← is) refl
 
 bad_by : (fits : Bool) (read : Result Command Bad) (e : End) (r : Reply)
     → (if fits then asked_as Basic (reply_to_bad read) else Err (basic_reply e)) ≡ Err r → is_basic_body r.body ≡ true
 bad_by true (Ok c) e r is = absurd (cc)
-bad_by true (Err bad) e r is = basic_of (bad_end bad) r (err_of _ _ is)
-bad_by false read e r is = basic_of e r (err_of _ _ is)
+bad_by true (Err bad) e r is = basic_of (bad_end bad) r (cc)
+bad_by false read e r is = basic_of e r (cc)
 
 pub strict_refusal : (profile : Profile) (p : Fetched) (r : Reply) → message_in profile p ≡ Err r
     → profile ≡ Strict → is_basic_body r.body ≡ true
 strict_refusal Strict p r is strict =
     bad_by (p.words.0 == 48) (read_command p.text) (invalid_length_end p.text) r is
-strict_refusal (Compatible identity) p r is strict = absurd (cc)
+strict_refusal _ p r is strict = absurd (cc)
 
 -- the end message of an executed command
 pub strict_outcome : (profile : Profile) (j : ℕ) (old : ExecState) (memory : List ℕ) (r : Reply) (new : ExecState)
@@ -456,17 +381,15 @@ strict_outcome profile j old memory r new memory_after none it strict =
 pub notice_text : (identity : Identity) (guest : Guest) (units : Units) (drive : ℕ) (unit : UnitReport)
     → first_due guest.attentions ≡ Some drive → unit_report guest units drive ≡ Some unit
     → attention_by (Compatible identity) guest units ≡ Some (available_text identity drive unit)
-notice_text identity guest units drive unit due report =
-    ap (attention_of identity guest units) due ∙ ap (option_map (available_text identity drive)) report
+notice_text identity guest units drive unit due report = rw (due, report) refl
 
 pub no_notice : (identity : Identity) (guest : Guest) (units : Units) (drive : ℕ)
     → first_due guest.attentions ≡ Some drive → unit_report guest units drive ≡ None
     → attention_by (Compatible identity) guest units ≡ None
-no_notice identity guest units drive due report =
-    ap (attention_of identity guest units) due ∙ ap (option_map (available_text identity drive)) report
+no_notice identity guest units drive due report = rw (due, report) refl
 
 -- ---- options
 
 pub none_of : {A : Type 0} (o : Option A) → is_some o ≡ false → o ≡ None
 none_of None is = refl
-none_of (Some x) is = absurd (true≢false is)
+none_of (Some x) is = absurd (cc)

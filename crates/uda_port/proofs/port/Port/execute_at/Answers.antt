@@ -7,35 +7,30 @@ use Rattle.uda_port.proofs.port.Port.execute_at.Goals as goal
 
 pub invariant_of-self : goal.invariant_of-self
 invariant_of-self g c =
-    let fewer = c.execute_at_in-end.ensures.fewer in
-    let conserved = c.self.invariant.conserved in
-    let longer = c.hold.ensures.longer in
-    let capacity = c.hold.ensures.capacity in
-    let room = c.self.invariant.room in
+    let is = c.self.invariant in
+    let was = is.possible in
+    let done = c.execute_at_in-end.ensures in
     record {
-      room = omega (arith, capacity, room);
-      credits = c.self.invariant.credits;
-      conserved = omega (arith, conserved, fewer, longer);
-      four_units = c.execute_at_in-end.ensures.four_units;
-      well_formed = c.execute_at_in-end.ensures.well_formed;
-      ordered = c.self.invariant.ordered;
-      begun = c.self.invariant.begun;
-      strict = λ is. c.execute_at_in-end.ensures.executes.ops_left
-          ∙ ap (λ (ops : List GuestOp). remove ops c.args.place) (c.self.invariant.strict is)
-          ∙ remove_none c.args.place;
+      room = c.hold.ensures.capacity ∙ is.room;
+      credits = is.credits;
+      conserved = omega arith;
+      four_units = done.four_units;
+      well_formed = done.well_formed;
+      ordered = is.ordered;
+      begun = is.begun;
+      strict = λ strict. done.executes.ops_left
+          ∙ ap (λ (ops : List GuestOp). remove ops c.args.place) (is.strict strict) ∙ remove_none c.args.place;
       possible = record {
-        phase = c.self.invariant.possible.phase;
-        interrupts = c.self.invariant.possible.interrupts;
-        rings = c.self.invariant.possible.rings;
-        guest = rw c.note_end.ensures (after_fits c.self.inside.profile c.self.inside.phase c.execute_at_in-end.result
-            c.self.inside.guest c.self.invariant.possible.guest);
-        queue = rw c.hold.ensures.last (queue_more c.self.inside.profile _ _ (strict_outcome c.self.inside.profile _ _ _ _ _
-            _ c.self.invariant.strict c.execute_at_in-end.ensures.executes) c.self.invariant.possible.queue);
-        no_work = λ is.
-            let none = (c.self.invariant.possible.no_work is).none_pending in
+        phase = was.phase;
+        interrupts = was.interrupts;
+        rings = was.rings;
+        guest = rw c.note_end.ensures (after_fits c.self.inside.profile _ c.execute_at_in-end.result _ was.guest);
+        queue = rw c.hold.ensures.last
+            (queue_more _ _ _ (strict_outcome c.self.inside.profile _ _ _ _ _ _ is.strict done.executes) was.queue);
+        no_work = λ rests.
             let stands = (rw (← c.self.view_is) at c.requires.eligible).stands in
-            let here : c.args.place < 0 = rw none at stands in
-            absurd (omega (arith, here));
+            let here : c.args.place < 0 = rw (was.no_work rests).none_pending at stands in
+            absurd (omega arith);
       };
     }
 

@@ -9,24 +9,29 @@ is_some-map f None = refl
 is_some-map f (Some a) = refl
 
 pub invariant_of-self : goal.invariant_of-self
-invariant_of-self g c = record {
-  room = c.self.invariant.room;
-  credits = c.self.invariant.credits;
-  conserved = rw c.set_drive-old.ensures.set c.self.invariant.conserved;
-  four_units = c.set_drive-old.ensures.four_units;
-  well_formed = c.set_drive-old.ensures.well_formed;
-  ordered = c.self.invariant.ordered;
-  begun = c.self.invariant.begun;
-  strict = rw c.set_drive-old.ensures.set c.self.invariant.strict;
-  possible = record {
-    phase = c.self.invariant.possible.phase;
-    interrupts = c.self.invariant.possible.interrupts;
-    rings = c.self.invariant.possible.rings;
-    guest = rw (c.set_attention.ensures, rw (← c.self.view_is) at c.attention_due-due.ensures.due) (drive_fits c.self.inside.profile c.self.inside.phase c.self.inside.guest c.args.unit _ c.self.invariant.possible.guest);
-    queue = c.self.invariant.possible.queue;
-    no_work = λ is. let none = c.self.invariant.possible.no_work is in record { not_polling = none.not_polling; none_delivered = none.none_delivered; none_pending = rw c.set_drive-old.ensures.set none.none_pending; none_waiting = none.none_waiting; at_first = rw c.set_drive-old.ensures.set none.at_first };
-  };
-}
+invariant_of-self g c =
+    let is = c.self.invariant in
+    let was = is.possible in
+    let put = c.set_drive-old.ensures in
+    record {
+      room = is.room;
+      credits = is.credits;
+      conserved = rw put.set is.conserved;
+      four_units = put.four_units;
+      well_formed = put.well_formed;
+      ordered = is.ordered;
+      begun = is.begun;
+      strict = rw put.set is.strict;
+      possible = record {
+        phase = was.phase;
+        interrupts = was.interrupts;
+        rings = was.rings;
+        guest = rw (c.set_attention.ensures, rw (← c.self.view_is) at c.attention_due-due.ensures.due)
+            (drive_fits c.self.inside.profile c.self.inside.phase c.self.inside.guest _ _ was.guest);
+        queue = was.queue;
+        no_work = λ rests. let none = was.no_work rests in rw put.set (assumption none);
+      };
+    }
 
 pub returns-clause-set : goal.returns-clause-set
 returns-clause-set g c =

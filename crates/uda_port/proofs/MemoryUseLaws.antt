@@ -1,7 +1,8 @@
 -- What a turn does, it does in each memory that agrees where the turn reads.
 use Rattle.std.proofs.Common.{◌≡◌, ℕ, zero, suc, ◌+◌, ◌-◌, ◌%◌, ◌<◌, ◌≤◌, min, Bool, true, false, List, [], ◌∷◌, length, Option, Some, None, refl, sym, ap, ap₂, subst, ◌∙◌, arith, zero-le, length-append}
 use Rattle.std.specs.Prelude.{◌&&◌, ◌||◌, ◌++◌, All, nat_eq, nat_le, option_map, slice_get, if◌then◌else◌}
-use Rattle.std.proofs.lemmas.Bool.{eq-eqb, eqb-true, leb-true, le-leb}
+use Rattle.std.proofs.lemmas.Bool.{and_parts, eq-eqb, leb-true, le-leb}
+use Rattle.std.proofs.lemmas.Bool.Decides.{nat_tests}
 use Rattle.std.proofs.lemmas.List.Elements.{All-nil, All-cons, All-head, All-tail}
 use Rattle.std.proofs.lemmas.Option.{slice_get_past}
 use Rattle.uda_mem.specs.declared.range.ByteRange.{ByteRange}
@@ -163,32 +164,24 @@ text_true memory at n h =
     rw (eq-eqb (at % 2) 0 h.even, le-leb 4 at h.above, le-leb (at + n) (length memory) h.within) refl
 
 text_from : (memory : List ℕ) (at n : ℕ) → has_text memory at n ≡ true → HasText memory at n
-text_from memory at n h =
-    go (nat_eq (at % 2) 0) (nat_le 4 at) (nat_le (at + n) (length memory)) refl refl refl h
-  where
-    go : (a b c : Bool) → nat_eq (at % 2) 0 ≡ a → nat_le 4 at ≡ b → nat_le (at + n) (length memory) ≡ c
-        → (a && (b && c)) ≡ true → HasText memory at n
-    go true true true a b c h =
-        record { even = eqb-true _ _ a; above = leb-true _ _ b; within = leb-true _ _ c }
-    go false b c is is' is'' h = absurd (cc)
-    go true false c is is' is'' h = absurd (cc)
-    go true true false is is' is'' h = absurd (cc)
+text_from memory at n h = record {
+  even = grind (arith, nat_tests);
+  above = grind (arith, nat_tests);
+  within = grind (arith, nat_tests);
+}
+
+-- a test that holds exactly if this does
+decides : (P : Type 0) (a b : Bool) → (P → a ≡ true) → (a ≡ true → P) → (b ≡ true → P) → (P → b ≡ true) → b ≡ a
+decides P a true to from has is = sym (to (has refl))
+decides P true false to from has is = is (from refl)
+decides P false false to from has is = refl
 
 pub text_iff : (memory : List ℕ) (at n : ℕ) (b : Bool) → (b ≡ true → HasText memory at n)
     → (HasText memory at n → b ≡ true) → b ≡ has_text memory at n
-text_iff memory at n true has is = sym (text_true memory at n (has refl))
-text_iff memory at n false has is = go (has_text memory at n) refl
-  where
-    go : (b : Bool) → has_text memory at n ≡ b → false ≡ has_text memory at n
-    go false none = sym none
-    go true some = absurd (let no = is (text_from memory at n some) in cc)
+text_iff memory at n b = decides (HasText memory at n) _ b (text_true memory at n) (text_from memory at n)
 
 not_text : (memory : List ℕ) (at n : ℕ) → (HasText memory at n → ⊥) → has_text memory at n ≡ false
-not_text memory at n never = go (has_text memory at n) refl
-  where
-    go : (b : Bool) → has_text memory at n ≡ b → has_text memory at n ≡ false
-    go true is = absurd (never (text_from memory at n is))
-    go false is = is
+not_text memory at n never = sym (text_iff memory at n false (λ no. absurd (cc)) (λ has. absurd (never has)))
 
 room_true : (profile : Profile) (memory : List ℕ) (at n : ℕ) → HasRoom profile memory at n
     → has_room profile memory at n ≡ true
@@ -198,22 +191,16 @@ room_true (Compatible identity) memory at n h = text_true memory at n h
 
 room_from : (profile : Profile) (memory : List ℕ) (at n : ℕ) → has_room profile memory at n ≡ true
     → HasRoom profile memory at n
-room_from Strict memory at n h = go (has_text memory at 48) (nat_le 48 (word_at memory (at - 4))) refl refl h
-  where
-    go : (a b : Bool) → has_text memory at 48 ≡ a → nat_le 48 (word_at memory (at - 4)) ≡ b
-        → (a && b) ≡ true → DeclaresRoom memory at
-    go true true a b h = record { packet = text_from memory at 48 a; long = leb-true _ _ b }
-    go false b is is' h = absurd (cc)
-    go true false is is' h = absurd (cc)
+room_from Strict memory at n h =
+    let both = and_parts (has_text memory at 48) _ h in
+    record { packet = text_from memory at 48 both.0; long = leb-true _ _ both.1 }
 room_from (Compatible identity) memory at n h = text_from memory at n h
 
 not_room : (profile : Profile) (memory : List ℕ) (at n : ℕ) → (HasRoom profile memory at n → ⊥)
     → has_room profile memory at n ≡ false
-not_room profile memory at n never = go (has_room profile memory at n) refl
-  where
-    go : (b : Bool) → has_room profile memory at n ≡ b → has_room profile memory at n ≡ false
-    go true is = absurd (never (room_from profile memory at n is))
-    go false is = is
+not_room profile memory at n never =
+    sym (decides (HasRoom profile memory at n) _ false (room_true profile memory at n) (room_from profile memory at n)
+    (λ no. absurd (cc)) (λ has. absurd (never has)))
 
 room_there : (profile : Profile) (memory other : List ℕ) (at n : ℕ) → length other ≡ length memory
     → SameIn memory other (packet_range memory at n) → HasRoom profile memory at n

@@ -19,7 +19,7 @@ use Rattle.uda_port.specs.Startup.{has_bit, area_of, has_area, refuses_second, r
 use Rattle.uda_port.specs.Plan.{Step, counted, stopped_polling, Rests, CommandRingLost, Unreadable, Exceeds, BadConnection, Fetches, Executes, DeliversEnd, Notifies, Waits, ResponseRingLost, NoRoom}
 use Rattle.uda_port.specs.Turn.{port_with_message}
 use Rattle.uda_port.specs.Message.{message_in}
-use Rattle.uda_port.proofs.PlanLaws.{AnyCase, case_of}
+use Rattle.uda_port.proofs.PlanLaws.{AnyCase, case_of, step_of}
 use Rattle.uda_port.specs.Events.{EventEffect, EventsEffect, FatalTurn, FatalWord, MeetsCause, LeavesIp, DiedAtEvent, StaysDead, DeathHasCause}
 
 -- the phase of equal ports
@@ -148,7 +148,7 @@ module _ (cause : Fatal) (old new : PortState) (memory memory_after : List ℕ) 
   ]
   fatal_event (Word address word) goes dead = inl ((λ is. cc), rw goes.0 at dead)
   fatal_event TurnEvent goes dead =
-      let s : Step = record { old = old; memory = memory; new = new; memory_after = memory_after } in
+      let s = step_of (old, memory) (new, memory_after) in
       elim (fatal_turn cause goes.0 s dead (case_of goes.0 s goes.1)) [
         | inl was ↦ inl ((λ is. cc), was)
         | inr met ↦ inr met
@@ -204,7 +204,8 @@ module _ (cause : Fatal) (new : PortState) (memory_after : List ℕ) where
   stays [] old memory played dead leaves = rw played.state dead
   stays (event ∷ rest) old memory played dead leaves =
       stays rest played.0.0 played.0.1 played.2
-      (dead_event cause old played.0.0 memory played.0.1 event played.1 (All-head (λ e. e ≢ WriteIp) event rest leaves) dead)
+      (dead_event cause old played.0.0 memory played.0.1 event played.1
+      (All-head (λ e. e ≢ WriteIp) event rest leaves) dead)
       (All-tail (λ e. e ≢ WriteIp) event rest leaves)
 
 pub death_has_cause : (events : List HostEvent) (old : PortState) (memory : List ℕ) (new : PortState)

@@ -34,6 +34,10 @@ use Rattle.uda_port.proofs.TurnLaws.{attention_first, first_text}
 
 -- ---- a turn is one of its cases
 
+-- the effect of a turn in a phase
+abbrev Goes : Step → Turn → Phase → Type 0
+Goes s turn phase = TurnEffect phase s.old s.memory turn s.new s.memory_after
+
 module _ (Is : ℕ → Type 0) (s : Step) where
   -- the pending command that a turn executed, of those that it may execute
   abbrev Picks : Turn → Type 0
@@ -74,13 +78,12 @@ module _ (Is : ℕ → Type 0) (s : Step) where
   ran did.Idle runs goes pick = Waits (assumption) (assumption) goes.rest.1.0 goes.rest.1.1
   ran did.Dead runs goes pick = died goes.cause goes.before runs goes.fails goes.died
 
-  rested : (phase : Phase) (turn : Turn) → s.old.phase ≡ phase
-      → TurnEffect phase s.old s.memory turn s.new s.memory_after → Picks turn → TurnCase Is turn s
+  rested : (phase : Phase) (turn : Turn) → s.old.phase ≡ phase → Goes s turn phase → Picks turn
+      → TurnCase Is turn s
   rested Running turn is goes pick = ran turn is goes pick
   rested _ turn is goes pick = Rests (λ runs. absurd (cc)) (goes.answer ∙ sym (ap rest_turn is)) goes.unchanged
 
-  pub case_by : (turn : Turn) → TurnEffect s.old.phase s.old s.memory turn s.new s.memory_after → Picks turn
-      → TurnCase Is turn s
+  case_by : (turn : Turn) → Goes s turn s.old.phase → Picks turn → TurnCase Is turn s
   case_by turn goes pick = rested s.old.phase turn refl goes pick
 
 -- any turn
@@ -95,19 +98,17 @@ case_of turn s goes = case_by (λ j. Unit {0}) s turn goes (λ j x is. (j, (tt, 
 
 module _ (Is : ℕ → Type 0) (turn : Turn) (s : Step) where
   at_rest : (phase : Phase) → (phase ≡ Running → ⊥) → turn ≡ rest_turn phase
-      → Unchanged s.old s.memory s.new s.memory_after
-      → TurnEffect phase s.old s.memory turn s.new s.memory_after
+      → Unchanged s.old s.memory s.new s.memory_after → Goes s turn phase
   at_rest Running rests answer same = absurd (rests refl)
   at_rest _ rests answer same = assumption
 
   running : {wanted : Turn} → TurnIs wanted turn s.old → RunningTurn s.old s.memory wanted s.new s.memory_after
-      → TurnEffect s.old.phase s.old s.memory turn s.new s.memory_after
-  running {wanted = wanted} d goes =
-      rw d.answer (subst (λ (p : Phase). TurnEffect p s.old s.memory wanted s.new s.memory_after) (sym d.runs) goes)
+      → Goes s turn s.old.phase
+  running {wanted = wanted} d goes = rw d.answer (subst (Goes s wanted) (sym d.runs) goes)
 
   dead : {cause : Fatal} (before : PortState) → TurnIs did.Dead turn s.old
       → Fails cause (counted s) s.memory before s.memory_after → s.new ≡ failed_port before cause
-      → TurnEffect s.old.phase s.old s.memory turn s.new s.memory_after
+      → Goes s turn s.old.phase
   dead before d fails is = running d (record { cause = _; before = before; fails = fails; died = is })
 
   pub effect_of : TurnCase Is turn s → TurnEffect s.old.phase s.old s.memory turn s.new s.memory_after
@@ -237,45 +238,45 @@ module _ (Is : ℕ → Type 0) (turn : Turn) (s : Step) where
 
   pub outcome : TurnCase Is turn s → Outcome Is turn s
   outcome (Rests rests answer same) =
-      other (plan_rests s.old s.memory rests) answer refl (never_rest s.old.phase) (ap units_of same.state)
+      other (plan_rests s.old s.memory rests) answer refl (never_rest s.old.phase) (rw same.state)
   outcome (CommandRingLost d line same) =
       other (plan_outside s.old s.memory d.runs line.looks line.no_descriptor) d.answer refl refl
-      (ap units_of same.state)
+      (rw same.state)
   outcome (Unreadable d line same) =
-      let l = line.no_packet in taken d line.looks l.is_next l.owned refl (ap units_of same.state)
+      let l = line.no_packet in taken d line.looks l.is_next l.owned refl (rw same.state)
   outcome (Exceeds d before line is) =
       let t = line.taken.takes in
-      taken d line.taken.looks t.is_next t.owned refl (ap units_of is ∙ ap units_of line.taken.others)
+      taken d line.taken.looks t.is_next t.owned refl (rw (is, line.taken.others))
   outcome (BadConnection d before line is) =
       let t = line.taken.takes in
-      taken d line.taken.looks t.is_next t.owned refl (ap units_of is ∙ ap units_of line.taken.others)
+      taken d line.taken.looks t.is_next t.owned refl (rw (is, line.taken.others))
   outcome (Fetches d line) =
       let t = line.takes in
       taken d line.looks t.is_next t.owned refl
-      (ap units_of line.others ∙ units_with (counted s) (message_in s.old.profile line.packet))
+      (rw line.others (units_with (counted s) (message_in s.old.profile line.packet)))
   outcome (Executes d nothing j is line) =
       Executing (plan_executes s.old s.memory d.runs nothing
-      (some_executed (stopped_polling s) s.memory j s.new s.memory_after line)) d.answer j is line
+      (some_executed _ _ _ _ _ line)) d.answer j is line
   outcome (DeliversEnd d reaches line) =
       let t = line.puts in
       other (plan_delivers _ _ d.runs reaches _ _ (first_text s.old line.end line.none_due
       (ap (λ (w : List Reply). slice_get w 0) line.first)) t.is_next t.owned) d.answer refl refl
-      (ap units_of line.others)
+      (rw line.others)
   outcome (Notifies d reaches line) =
       let t = line.puts in
       other (plan_delivers _ _ d.runs reaches _ _ (attention_first s.old line.text line.message) t.is_next t.owned)
-      d.answer refl refl (ap units_of line.others)
+      d.answer refl refl (rw line.others)
   outcome (Waits d reaches none same) = elim (plan_quiet _ _ d.runs reaches none) [
-    | NoneWaits plan ↦ other plan d.answer refl refl (ap units_of same.state)
-    | Waiting plan ↦ other plan d.answer refl refl (ap units_of same.state)
+    | NoneWaits plan ↦ other plan d.answer refl refl (rw same.state)
+    | Waiting plan ↦ other plan d.answer refl refl (rw same.state)
   ]
   outcome (ResponseRingLost d reaches line same) =
       other (plan_lost _ _ d.runs reaches _ line.is_next line.no_descriptor) d.answer refl refl
-      (ap units_of same.state)
+      (rw same.state)
   outcome (NoRoom d reaches line same) =
       let l = line.no_room in
       other (plan_delivers _ _ d.runs reaches _ _ line.is_next l.is_next l.owned) d.answer refl refl
-      (ap units_of same.state)
+      (rw same.state)
 
   -- a turn that is to execute a command does
   pub executed_case : TurnCase Is turn s → plan_of s.old s.memory ≡ ToExecute → turn ≡ did.Executed
@@ -283,7 +284,7 @@ module _ (Is : ℕ → Type 0) (turn : Turn) (s : Step) where
 
 -- ---- a turn that executes the command at an index, if it executes one
 
-abbrev step_of : PortState × List ℕ → PortState × List ℕ → Step
+abbrev pub step_of : PortState × List ℕ → PortState × List ℕ → Step
 step_of before after = record { old = before.0; memory = before.1; new = after.0; memory_after = after.1 }
 
 pub case_at : (place : ℕ) (before : PortState × List ℕ) (turn : Turn) (after : PortState × List ℕ)

@@ -1,8 +1,8 @@
 -- Ports that differ only in their counts have the same future.
-use Rattle.std.proofs.Common.{◌≡◌, ℕ, ◌+◌, ◌<◌, ◌≤◌, ◌↔◌, ◌==◌, Bool, true, false, ◌||◌, List, [], ◌∷◌, length, Result, refl, sym, ap, ◌∙◌, arith}
+use Rattle.std.proofs.Common.{◌≡◌, ℕ, ◌+◌, ◌<◌, ◌≤◌, ◌↔◌, Bool, true, false, ◌||◌, List, [], ◌∷◌, length, Result, refl, sym, ap, ◌∙◌, arith}
 use Rattle.std.specs.Prelude.{not, nat_lt, IsTrue}
 use Rattle.uda_packet.specs.declared.guest_command.GuestOp.{GuestOp}
-use Rattle.std.proofs.lemmas.Bool.{eqb-true, eq-eqb, and_parts, ltb_from_iff}
+use Rattle.std.proofs.lemmas.Bool.{eq-eqb, and_parts, ltb_from_iff}
 use Rattle.std.proofs.lemmas.Bool.Decides.{nat_tests}
 use Rattle.std.proofs.lemmas.List.{nil_from_length}
 use Rattle.uda_packet.specs.declared.reply.Reply.{Reply}
@@ -28,7 +28,7 @@ use Rattle.uda_port.specs.Startup.{after_sa_write}
 use Rattle.uda_port.specs.Turn.{Unchanged, port_with_message, TakesPacket, TurnEffect}
 use Rattle.uda_port.specs.Plan.{Step, counted, Rests, CommandRingLost, Unreadable, Exceeds, BadConnection, Fetches, Executes, DeliversEnd, Notifies, Waits, ResponseRingLost, NoRoom}
 use Rattle.uda_port.specs.Events.{EventEffect, EventsEffect}
-use Rattle.uda_port.proofs.PlanLaws.{AnyCase, case_of, effect_of}
+use Rattle.uda_port.proofs.PlanLaws.{AnyCase, case_of, effect_of, step_of}
 use Rattle.uda_port.specs.Possible.{has_run, has_phase, can_interrupt, rings_fit, guest_fits, queue_fits, HasNoWork}
 use Rattle.uda_port.proofs.PossibleLaws.{first_position}
 use Rattle.uda_port.specs.Saved.{work_fits, has_no_work, profile_fits, saved_port, port_restored, is_consistent, outstanding, credits_due, lists_ops, least_deliveries, Counts, with_counts, RestoredIsSaved, SameFuture}
@@ -117,14 +117,6 @@ pub record Agrees (s : Saved) : Type 0 where
   pub queue : queue_fits s.profile s.waiting.items ≡ true
   pub no_work : has_run s.phase ≡ false → SavedNoWork s
 
-credits_agree : (begun : Bool) (credits n : ℕ) → credits + n ≡ credits_due begun
-    → credits + (least_deliveries begun + n) ≡ credits_granted (least_deliveries begun)
-credits_agree begun credits n is = grind arith
-
-none_listed : (profile : Profile) (ops : List GuestOp) → not (lists_ops profile ops) ≡ true → profile ≡ Strict
-    → ops ≡ []
-none_listed profile ops none is = grind arith
-
 -- the command ring isn't below the response ring
 placed_in_order : (profile : Profile) (phase : Phase) (a b : RingState) → rings_fit profile phase a b ≡ true
     → a.base ≤ b.base
@@ -140,24 +132,23 @@ no_work_by s is = record {
 }
 
 pub agrees : (s : Saved) → is_consistent s ≡ true → Agrees s
-agrees s consistent =
-    let phase = and_parts _ _ consistent in
+agrees s is =
+    let phase = and_parts _ _ is in
     let interrupts = and_parts _ _ phase.1 in
     let rings = and_parts _ _ interrupts.1 in
     let guest = and_parts _ _ rings.1 in
     let both = and_parts (work_fits s) (profile_fits s) guest.1 in
-    let work = and_parts (s.credits + outstanding s == credits_due s.begun) _ both.0 in
-    let of_profile = and_parts (not (lists_ops s.profile s.exec.guest_ops.items)) _ both.1 in
+    let work = and_parts _ (has_run s.phase || has_no_work s) both.0 in
     record {
-      credits = credits_agree s.begun s.credits (outstanding s) (eqb-true _ _ work.0);
+      credits = grind (arith, nat_tests);
       ordered = placed_in_order s.profile s.phase s.responses s.commands rings.0;
       begun = grind arith;
-      strict = none_listed _ _ of_profile.0;
+      strict = grind arith;
       phase = phase.0;
       interrupts = interrupts.0;
       rings = rings.0;
       guest = guest.0;
-      queue = of_profile.1;
+      queue = (and_parts _ _ both.1).1;
       no_work = λ not_run. no_work_by s (rw not_run at work.1);
     }
 
@@ -306,7 +297,7 @@ module _ (k : Counts) (old : PortState) (begun : nat_lt 0 k.deliveries ≡ nat_l
     begun = rw effect.0 begun;
   }
   event TurnEvent effect =
-      let s : Step = record { old = old; memory = memory; new = new; memory_after = memory_after } in
+      let s = step_of (old, memory) (new, memory_after) in
       let x = turns_also k effect.0 s begun (case_of effect.0 s effect.1) in
       record { counts = x.counts; leads = (effect.0, x.leads); begun = x.begun }
 
@@ -332,7 +323,7 @@ all_events (e ∷ rest) k old memory new memory_after begun effect =
 pub same_future : SameFuture
 same_future = record {
   turns = λ a b memory turn new memory_after same effect.
-      let s : Step = record { old = a; memory = memory; new = new; memory_after = memory_after } in
+      let s = step_of (a, memory) (new, memory_after) in
       let x = turns_also same.counts turn s same.begun (case_of turn s effect) in
       record {
         left = with_counts x.counts new;

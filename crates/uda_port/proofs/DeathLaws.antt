@@ -1,10 +1,8 @@
 -- The causes of fatal errors, from the effect of each event.
-use Rattle.std.proofs.Common.{◌≡◌, ◌≢◌, ℕ, ◌⊎◌, inl, inr, Bool, true, false, List, [], ◌∷◌, length, Result, refl, ap, ◌∙◌, arith}
+use Rattle.std.proofs.Common.{◌≡◌, ◌≢◌, ℕ, ◌⊎◌, inl, inr, Bool, true, false, List, [], ◌∷◌, length, refl, ap, ◌∙◌, arith}
 use Rattle.std.specs.Prelude.{if◌then◌else◌}
 use Rattle.std.proofs.lemmas.List.Elements.{All-nil, All-cons, All-head, All-tail}
 use borrow.Author.Tests.{ltb-true, ltb-false}
-use Rattle.uda_packet.specs.declared.guest_command.GuestCommand.{GuestCommand}
-use Rattle.uda_packet.specs.declared.reply.Reply.{Reply}
 use Rattle.uda_port.specs.declared.phase.Phase.{Phase}
 use Rattle.uda_port.specs.declared.phase.Phase.TheVariants.{Step1, Step2, Step3, Wrap, PurgeTest, Step4, Running, Dead}
 use Rattle.uda_port.specs.declared.phase.Fatal.{Fatal}
@@ -17,9 +15,8 @@ use Rattle.uda_port.specs.declared.play.HostEvent.TheVariants.{WriteIp, ReadIp, 
 use Rattle.uda_port.specs.Port.{PortState, port_in_phase, port_after_ip_read}
 use Rattle.uda_port.specs.Startup.{has_bit, area_of, has_area, refuses_second, refuses_third, after_third, after_sa_write, after_purge_test_write, after_step4_write, failed_port, port_with_rings, after_wrap_request}
 use Rattle.uda_port.specs.Plan.{Step, counted, stopped_polling, Rests, CommandRingLost, Unreadable, Exceeds, BadConnection, Fetches, Executes, DeliversEnd, Notifies, Waits, ResponseRingLost, NoRoom}
-use Rattle.uda_port.specs.Turn.{port_with_message}
 use Rattle.uda_port.specs.Message.{message_in}
-use Rattle.uda_port.proofs.PlanLaws.{AnyCase, case_of, step_of}
+use Rattle.uda_port.proofs.PlanLaws.{AnyCase, case_of, message_keeps, step_of}
 use Rattle.uda_port.specs.Events.{EventEffect, EventsEffect, FatalTurn, FatalWord, MeetsCause, LeavesIp, DiedAtEvent, StaysDead, DeathHasCause}
 
 -- the phase of equal ports
@@ -92,11 +89,6 @@ module _ (cause : Fatal) (word : ℕ) (old new : PortState) (memory : List ℕ) 
 
 -- ---- a turn
 
--- a message doesn't change the phase
-message_phase : (old : PortState) (message : Result GuestCommand Reply)
-    → (port_with_message old message).phase ≡ old.phase
-message_phase old message = grind arith
-
 module _ (cause : Fatal) (turn : Turn) (s : Step) (dead : s.new.phase ≡ Dead cause) where
   abbrev Met : Type 0
   Met = (s.old.phase ≡ Dead cause) ⊎ ((s.old.phase ≡ Running) × FatalTurn cause (counted s) s.memory)
@@ -120,7 +112,7 @@ module _ (cause : Fatal) (turn : Turn) (s : Step) (dead : s.new.phase ≡ Dead c
   fatal_turn (Exceeds d before line is) = met before d.runs is (search line)
   fatal_turn (BadConnection d before line is) = met before d.runs is (search line)
   fatal_turn (Fetches d line) =
-      lives d.runs (phases line.others ∙ message_phase (counted s) (message_in s.old.profile line.packet))
+      lives d.runs (phases line.others ∙ phases (message_keeps (counted s) (message_in s.old.profile line.packet)))
   fatal_turn (Executes d nothing j is line) = lives d.runs (phases line.others)
   fatal_turn (DeliversEnd d r line) = lives d.runs (phases line.others)
   fatal_turn (Notifies d r line) = lives d.runs (phases line.others)

@@ -205,6 +205,11 @@ module _ (port : PortState) (memory : List ℕ) where
 
 -- ---- a turn executes a command exactly if that is the plan
 
+-- a message changes only the executor and the queue
+pub message_keeps : (old : PortState) (m : Result GuestCommand Reply) → port_with_message old m
+    ≡ record old { exec = (port_with_message old m).exec; waiting = (port_with_message old m).waiting }
+message_keeps old m = grind arith
+
 -- a message changes no unit
 pub units_with : (old : PortState) (message : Result GuestCommand Reply)
     → (port_with_message old message).exec.units ≡ old.exec.units

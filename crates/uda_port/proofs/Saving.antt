@@ -28,7 +28,7 @@ use Rattle.uda_port.specs.Startup.{after_sa_write}
 use Rattle.uda_port.specs.Turn.{Unchanged, port_with_message, TakesPacket, TurnEffect}
 use Rattle.uda_port.specs.Plan.{Step, counted, Rests, CommandRingLost, Unreadable, Exceeds, BadConnection, Fetches, Executes, DeliversEnd, Notifies, Waits, ResponseRingLost, NoRoom}
 use Rattle.uda_port.specs.Events.{EventEffect, EventsEffect}
-use Rattle.uda_port.proofs.PlanLaws.{AnyCase, case_of, effect_of, step_of}
+use Rattle.uda_port.proofs.PlanLaws.{AnyCase, case_of, effect_of, message_keeps, step_of}
 use Rattle.uda_port.specs.Possible.{has_run, has_phase, can_interrupt, rings_fit, guest_fits, queue_fits, HasNoWork}
 use Rattle.uda_port.proofs.PossibleLaws.{first_position}
 use Rattle.uda_port.specs.Saved.{work_fits, has_no_work, profile_fits, saved_port, port_restored, is_consistent, outstanding, credits_due, lists_ops, least_deliveries, Counts, with_counts, RestoredIsSaved, SameFuture}
@@ -169,10 +169,6 @@ message_same : (k : Counts) (old : PortState) (m : Result GuestCommand Reply)
     → port_with_message (with_counts k old) m ≡ with_counts k (port_with_message old m)
 message_same k old m = grind arith
 
-message_deliveries : (old : PortState) (m : Result GuestCommand Reply)
-    → (port_with_message old m).deliveries ≡ old.deliveries
-message_deliveries old m = grind arith
-
 -- a turn of a port with other counts
 module _ (k : Counts) (turn : Turn) (s : Step) (begun : nat_lt 0 k.deliveries ≡ nat_lt 0 s.old.deliveries) where
   abbrev TurnsAlso : Type 0
@@ -211,7 +207,7 @@ module _ (k : Counts) (turn : Turn) (s : Step) (begun : nat_lt 0 k.deliveries �
   turns_also (Fetches d line) =
       let more = record once { fetches = k.fetches + 1 } in
       let m = message_in s.old.profile line.packet in
-      leaves more line.others (rw (message_deliveries (counted s) m) begun)
+      leaves more line.others (rw (message_keeps (counted s) m) begun)
       (Fetches (assumption) (record {
         packet = line.packet;
         looks = line.looks;

@@ -3,14 +3,10 @@ use Rattle.std.proofs.Common.{◌≡◌, ◌≢◌, ℕ, ◌⊎◌, inl, inr, Bo
 use Rattle.std.specs.Prelude.{if◌then◌else◌}
 use Rattle.std.proofs.lemmas.List.Elements.{All-nil, All-cons, All-head, All-tail}
 use borrow.Author.Tests.{ltb-true, ltb-false}
-use Rattle.uda_port.specs.declared.phase.Phase.{Phase}
+use Rattle.uda_port.specs.declared.{phase.Phase.Phase, phase.Fatal.Fatal, profile.Profile.Profile, turn.Turn.Turn, play.HostEvent.HostEvent}
 use Rattle.uda_port.specs.declared.phase.Phase.TheVariants.{Step1, Step2, Step3, Wrap, PurgeTest, Step4, Running, Dead}
-use Rattle.uda_port.specs.declared.phase.Fatal.{Fatal}
 use Rattle.uda_port.specs.declared.phase.Fatal.TheVariants.{RingWrite, InitializationError}
-use Rattle.uda_port.specs.declared.profile.Profile.{Profile}
 use Rattle.uda_port.specs.declared.profile.Profile.TheVariants.{Strict, Compatible}
-use Rattle.uda_port.specs.declared.turn.Turn.{Turn}
-use Rattle.uda_port.specs.declared.play.HostEvent.{HostEvent}
 use Rattle.uda_port.specs.declared.play.HostEvent.TheVariants.{WriteIp, ReadIp, WriteSa, Word, Turn as TurnEvent}
 use Rattle.uda_port.specs.Port.{PortState, port_in_phase, port_after_ip_read}
 use Rattle.uda_port.specs.Startup.{has_bit, area_of, has_area, refuses_second, refuses_third, after_third, after_sa_write, after_purge_test_write, after_step4_write, failed_port, port_with_rings, after_wrap_request}

@@ -1,34 +1,18 @@
 -- A turn is one of the cases of its plan.
 use Rattle.std.proofs.Common.{◌≡◌, ℕ, ◌+◌, ◌<◌, ◌≤◌, Bool, true, false, List, [], ◌∷◌, length, Option, Some, None, Result, refl, sym, ap, subst, ◌∙◌, arith}
 use Rattle.std.specs.Prelude.{option_map, slice_get}
-use Rattle.std.proofs.lemmas.Bool.{cond_both}
-use Rattle.std.proofs.lemmas.Bool.Decides.{nat_tests}
-use Rattle.std.proofs.lemmas.Option.{slice_get_within}
-use Rattle.uda_packet.specs.declared.command.Command.{Command}
-use Rattle.uda_packet.specs.declared.guest_command.GuestCommand.{GuestCommand}
-use Rattle.uda_packet.specs.declared.reply.Reply.{Reply}
+use Rattle.std.proofs.lemmas.{Bool.cond_both, Bool.Decides.nat_tests, Option.slice_get_within}
+use Rattle.uda_packet.specs.declared.{command.Command.Command, guest_command.GuestCommand.GuestCommand, reply.Reply.Reply}
 use Rattle.uda_disk.specs.Units.{Units}
-use Rattle.uda_port.specs.MemoryUse.{TurnsAt}
-use Rattle.uda_port.specs.Message.{message_in}
-use Rattle.uda_port.specs.declared.descriptor.Descriptor.{Descriptor}
-use Rattle.uda_port.specs.declared.phase.Fatal.{Fatal}
+use Rattle.uda_port.specs.{MemoryUse.TurnsAt, Message.message_in, Events.Delivers, Port.PortState, Report.next_text, Fetch.IsNext, Startup.failed_port}
+use Rattle.uda_port.specs.declared.{descriptor.Descriptor.Descriptor, phase.Fatal.Fatal, phase.Phase.Phase, phase.Phase.TheVariants.Running, turn.Turn.Turn, plan.Plan.Plan, profile.Profile.Profile}
 use Rattle.uda_port.specs.declared.phase.Fatal.TheVariants as fatal
-use Rattle.uda_port.specs.declared.phase.Phase.{Phase}
-use Rattle.uda_port.specs.declared.phase.Phase.TheVariants.{Running}
-use Rattle.uda_port.specs.declared.turn.Turn.{Turn}
 use Rattle.uda_port.specs.declared.turn.Turn.TheVariants as did
-use Rattle.uda_port.specs.Events.{Delivers}
-use Rattle.uda_port.specs.declared.plan.Plan.{Plan}
 use Rattle.uda_port.specs.declared.plan.Plan.TheVariants.{AtRest, NoCommandRing, ToFetch, ToExecute, NoMessage, ToWait, NoResponseRing, ToDeliver}
 use Rattle.uda_port.specs.Plan.{plan_later, plan_running, plan_in, next_size, plan_without_fetch, plan_of}
 use Rattle.uda_port.specs.Plan.{Step, counted, stopped_polling, is_execution, is_executed, rest_turn, TurnIs, TurnCase, Rests, CommandRingLost, Unreadable, Exceeds, BadConnection, Fetches, Executes, DeliversEnd, Notifies, Waits, ResponseRingLost, NoRoom}
-use Rattle.uda_port.specs.declared.profile.Profile.{Profile}
 use Rattle.uda_port.specs.declared.profile.Profile.TheVariants.{Strict, Compatible}
-use Rattle.uda_port.specs.Port.{PortState}
-use Rattle.uda_port.specs.Report.{next_text}
-use Rattle.uda_port.specs.Fetch.{IsNext}
 use Rattle.uda_port.specs.Ring.{descriptor_at, is_owned, next_descriptor}
-use Rattle.uda_port.specs.Startup.{failed_port}
 use Rattle.uda_port.specs.Turn.{Unchanged, TurnEffect, RunningTurn, NothingToFetch, NothingToDeliver, ExecutesOne, ExecutesFor, Fails, InFetch, InRest, may_fetch, port_with_message}
 use Rattle.uda_port.proofs.TurnLaws.{attention_first, first_text}
 

@@ -130,17 +130,14 @@ module _ (cause : Fatal) (old new : PortState) (memory memory_after : List ℕ) 
       → ((event ≢ WriteIp) × (old.phase ≡ Dead cause)) ⊎ MeetsCause cause event old memory
   fatal_event WriteIp goes dead = absurd (cc (phases goes.0))
   fatal_event ReadIp goes dead = inl ((λ is. cc), asked_dead cause old (rw goes.0 at dead))
-  fatal_event (WriteSa word) goes dead = elim (fatal_word cause word old new memory dead old.phase refl goes) [
-    | inl was ↦ inl ((λ is. cc), was)
-    | inr met ↦ inr met
-  ]
+  fatal_event (WriteSa word) goes dead =
+      elim (fatal_word cause word old new memory dead old.phase refl goes)
+      [ | inl was ↦ inl ((λ is. cc), was) | inr met ↦ inr met ]
   fatal_event (Word address word) goes dead = inl ((λ is. cc), rw goes.0 at dead)
   fatal_event TurnEvent goes dead =
       let s = step_of (old, memory) (new, memory_after) in
-      elim (fatal_turn cause goes.0 s dead (case_of goes.0 s goes.1)) [
-        | inl was ↦ inl ((λ is. cc), was)
-        | inr met ↦ inr met
-      ]
+      elim (fatal_turn cause goes.0 s dead (case_of goes.0 s goes.1))
+      [ | inl was ↦ inl ((λ is. cc), was) | inr met ↦ inr met ]
 
   -- a dead port remains dead until IP is written
   dead_event : (event : HostEvent) → EventEffect event old memory new memory_after → event ≢ WriteIp

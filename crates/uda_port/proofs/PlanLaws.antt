@@ -9,8 +9,7 @@ use Rattle.uda_port.specs.declared.{descriptor.Descriptor.Descriptor, phase.Fata
 use Rattle.uda_port.specs.declared.phase.Fatal.TheVariants as fatal
 use Rattle.uda_port.specs.declared.turn.Turn.TheVariants as did
 use Rattle.uda_port.specs.declared.plan.Plan.TheVariants.{AtRest, NoCommandRing, ToFetch, ToExecute, NoMessage, ToWait, NoResponseRing, ToDeliver}
-use Rattle.uda_port.specs.Plan.{plan_later, plan_running, plan_in, next_size, plan_without_fetch, plan_of}
-use Rattle.uda_port.specs.Plan.{Step, counted, stopped_polling, is_execution, is_executed, rest_turn, TurnIs, TurnCase, Rests, CommandRingLost, Unreadable, Exceeds, BadConnection, Fetches, Executes, DeliversEnd, Notifies, Waits, ResponseRingLost, NoRoom}
+use Rattle.uda_port.specs.Plan.{plan_later, plan_running, plan_in, next_size, plan_without_fetch, plan_of, Step, counted, stopped_polling, is_execution, is_executed, rest_turn, TurnIs, TurnCase, Rests, CommandRingLost, Unreadable, Exceeds, BadConnection, Fetches, Executes, DeliversEnd, Notifies, Waits, ResponseRingLost, NoRoom}
 use Rattle.uda_port.specs.declared.profile.Profile.TheVariants.{Strict, Compatible}
 use Rattle.uda_port.specs.Ring.{descriptor_at, is_owned, next_descriptor}
 use Rattle.uda_port.specs.Turn.{Unchanged, TurnEffect, RunningTurn, NothingToFetch, NothingToDeliver, ExecutesOne, ExecutesFor, Fails, InFetch, InRest, may_fetch, port_with_message}
@@ -232,7 +231,7 @@ module _ (Is : ℕ → Type 0) (turn : Turn) (s : Step) where
       other (plan_outside s.old s.memory d.runs line.looks line.no_descriptor) d.answer refl refl
       (rw same.state)
   outcome (Unreadable d line same) =
-      let l = line.no_packet in taken d line.looks l.is_next l.owned refl (rw same.state)
+      taken d line.looks line.no_packet.is_next line.no_packet.owned refl (rw same.state)
   outcome (Exceeds d before line is) =
       let t = line.taken.takes in
       taken d line.taken.looks t.is_next t.owned refl (rw (is, line.taken.others))

@@ -72,12 +72,11 @@ state_of p = record {
 
 pub consistent : {S : Type 0} (p : Inside S) → PortInvariant p → is_consistent (saved_port (state_of p)) ≡ true
 consistent p is =
-    let s = saved_port (state_of p) in
-    let due = due_of p.deliveries p.credits p.fetches (outstanding s) is.credits is.conserved in
-    let work = work_by (has_run p.phase) (has_no_work s) (λ not_run.
-    let none = is.possible.no_work not_run in
-    rw (none.not_polling, none.none_delivered, none.none_pending, none.none_waiting, none.at_first)) in
     let q = is.possible in
+    let due = due_of _ _ _ _ is.credits is.conserved in
+    let work = work_by (has_run p.phase) (has_no_work (saved_port (state_of p))) (λ not_run.
+    let none = q.no_work not_run in
+    rw (none.not_polling, none.none_delivered, none.none_pending, none.none_waiting, none.at_first)) in
     rw (q.phase, q.interrupts, q.rings, q.guest, eq-eqb _ _ due, work, lists_none _ _ is.strict, q.queue)
 
 pub is_saved : {S : Type 0} (p : Inside S) (waiting : List Reply) (exec : SavedExec) → PortInvariant p

@@ -1,6 +1,6 @@
 -- A turn is one of the cases of its plan.
 use Rattle.std.proofs.Common.{◌≡◌, ℕ, ◌+◌, ◌<◌, ◌≤◌, Bool, true, false, List, [], ◌∷◌, length, Option, Some, None, Result, refl, sym, ap, subst, ◌∙◌, arith}
-use Rattle.std.specs.Prelude.{option_map, slice_get}
+use Rattle.std.specs.Prelude.{option_map}
 use Rattle.std.proofs.lemmas.{Bool.cond_both, Bool.Decides.nat_tests, Option.slice_get_within}
 use Rattle.uda_packet.specs.declared.{command.Command.Command, guest_command.GuestCommand.GuestCommand, reply.Reply.Reply}
 use Rattle.uda_disk.specs.Units.{Units}
@@ -75,7 +75,7 @@ AnyCase turn s = TurnCase (λ j. Unit {0}) turn s
 
 pub case_of : (turn : Turn) (s : Step) → TurnEffect s.old.phase s.old s.memory turn s.new s.memory_after
     → AnyCase turn s
-case_of turn s goes = case_by (λ j. Unit {0}) s turn goes (λ j x is. (j, (tt, x)))
+case_of turn s goes = case_by _ s turn goes (λ j x is. (j, (tt, x)))
 
 -- ---- and each case is a turn
 
@@ -128,11 +128,7 @@ module _ (port : PortState) (memory : List ℕ) where
   plan_here phase = plan_in phase (plan_running (may_fetch port) (next_descriptor memory port.commands) later_here)
 
   pub plan_rests : (port.phase ≡ Running → ⊥) → plan_of port memory ≡ AtRest
-  plan_rests rests = by port.phase rests
-    where
-      by : (phase : Phase) → (phase ≡ Running → ⊥) → plan_here phase ≡ AtRest
-      by Running not = absurd (not refl)
-      by _ not = refl
+  plan_rests rests = grind arith
 
   pub plan_outside : port.phase ≡ Running → may_fetch port ≡ true → next_descriptor memory port.commands ≡ None
       → plan_of port memory ≡ NoCommandRing
@@ -143,21 +139,11 @@ module _ (port : PortState) (memory : List ℕ) where
   plan_fetches d runs looks next owned = ap plan_here runs ∙ rw (looks, next, owned)
 
   pub plan_goes_on : port.phase ≡ Running → NothingToFetch port memory → plan_of port memory ≡ later_here
-  plan_goes_on runs nothing = ap plan_here runs ∙ by (may_fetch port) refl
-    where
-      by : (b : Bool) → may_fetch port ≡ b
-          → plan_running b (next_descriptor memory port.commands) later_here ≡ later_here
-      by false is = refl
-      by true is = let f = nothing is in rw (f.is_next, f.not_owned)
+  plan_goes_on runs nothing = grind arith
 
   pub plan_executes : port.phase ≡ Running → NothingToFetch port memory → 0 < length port.exec.pending
       → plan_of port memory ≡ ToExecute
-  plan_executes runs nothing pending = plan_goes_on runs nothing ∙ by port.exec.pending pending
-    where
-      by : (cs : List Command) → 0 < length cs
-          → plan_later cs (next_size port) (next_descriptor memory port.responses) ≡ ToExecute
-      by [] none = absurd (omega arith)
-      by (c ∷ cs) some = refl
+  plan_executes runs nothing pending = plan_goes_on runs nothing ∙ grind arith
 
   module _ (runs : port.phase ≡ Running) (waits : Delivers port memory) where
     plan_speaks : {text : Option (List ℕ)} → next_text port ≡ text
@@ -228,8 +214,7 @@ module _ (Is : ℕ → Type 0) (turn : Turn) (s : Step) where
   outcome (Rests rests answer same) =
       other (plan_rests s.old s.memory rests) answer refl (never_rest s.old.phase) (rw same.state)
   outcome (CommandRingLost d line same) =
-      other (plan_outside s.old s.memory d.runs line.looks line.no_descriptor) d.answer refl refl
-      (rw same.state)
+      other (plan_outside s.old s.memory d.runs line.looks line.no_descriptor) d.answer refl refl (rw same.state)
   outcome (Unreadable d line same) =
       taken d line.looks line.no_packet.is_next line.no_packet.owned refl (rw same.state)
   outcome (Exceeds d before line is) =
@@ -243,13 +228,11 @@ module _ (Is : ℕ → Type 0) (turn : Turn) (s : Step) where
       taken d line.looks t.is_next t.owned refl
       (rw line.others (units_with (counted s) (message_in s.old.profile line.packet)))
   outcome (Executes d nothing j is line) =
-      Executing (plan_executes s.old s.memory d.runs nothing
-      (some_executed _ _ _ _ _ line)) d.answer j is line
+      Executing (plan_executes s.old s.memory d.runs nothing (some_executed _ _ _ _ _ line)) d.answer j is line
   outcome (DeliversEnd d reaches line) =
       let t = line.puts in
-      other (plan_delivers _ _ d.runs reaches _ _ (first_text s.old line.end line.none_due
-      (ap (λ (w : List Reply). slice_get w 0) line.first)) t.is_next t.owned) d.answer refl refl
-      (rw line.others)
+      other (plan_delivers _ _ d.runs reaches _ _ (first_text s.old line.end line.none_due (rw line.first)) t.is_next
+      t.owned) d.answer refl refl (rw line.others)
   outcome (Notifies d reaches line) =
       let t = line.puts in
       other (plan_delivers _ _ d.runs reaches _ _ (attention_first s.old line.text line.message) t.is_next t.owned)
@@ -259,12 +242,10 @@ module _ (Is : ℕ → Type 0) (turn : Turn) (s : Step) where
     | Waiting plan ↦ other plan d.answer refl refl (rw same.state)
   ]
   outcome (ResponseRingLost d reaches line same) =
-      other (plan_lost _ _ d.runs reaches _ line.is_next line.no_descriptor) d.answer refl refl
-      (rw same.state)
+      other (plan_lost _ _ d.runs reaches _ line.is_next line.no_descriptor) d.answer refl refl (rw same.state)
   outcome (NoRoom d reaches line same) =
       let l = line.no_room in
-      other (plan_delivers _ _ d.runs reaches _ _ line.is_next l.is_next l.owned) d.answer refl refl
-      (rw same.state)
+      other (plan_delivers _ _ d.runs reaches _ _ line.is_next l.is_next l.owned) d.answer refl refl (rw same.state)
 
   -- a turn that is to execute a command does
   pub executed_case : TurnCase Is turn s → plan_of s.old s.memory ≡ ToExecute → turn ≡ did.Executed
@@ -278,13 +259,13 @@ step_of before after = record { old = before.0; memory = before.1; new = after.0
 pub case_at : (place : ℕ) (before : PortState × List ℕ) (turn : Turn) (after : PortState × List ℕ)
     → TurnsAt place before turn after → TurnCase (λ k. k ≡ place) turn (step_of before after)
 case_at place before turn after it =
-    case_by (λ k. k ≡ place) (step_of before after) turn it.goes (λ k x is. (place, (refl, it.executes is)))
+    case_by _ _ turn it.goes (λ k x is. (place, (refl, it.executes is)))
 
 pub turns_at : (place : ℕ) (before : PortState × List ℕ) (turn : Turn) (after : PortState × List ℕ)
     → TurnCase (λ k. k ≡ place) turn (step_of before after) → TurnsAt place before turn after
 turns_at place before turn after c = record {
-  goes = effect_of (λ k. k ≡ place) turn (step_of before after) c;
-  executes = λ executed. elim (outcome (λ k. k ≡ place) turn (step_of before after) c) [
+  goes = effect_of _ _ _ c;
+  executes = λ executed. elim (outcome _ _ _ c) [
     | Executing plan is j at x ↦ rw at at x
     | Other none never units ↦ absurd (cc)
   ];

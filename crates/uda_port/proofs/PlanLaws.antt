@@ -124,26 +124,23 @@ module _ (port : PortState) (memory : List ℕ) where
   abbrev later_here : Plan
   later_here = plan_without_fetch port memory
 
-  abbrev plan_here : Phase → Plan
-  plan_here phase = plan_in phase (plan_running (may_fetch port) (next_descriptor memory port.commands) later_here)
-
   pub plan_rests : (port.phase ≡ Running → ⊥) → plan_of port memory ≡ AtRest
   plan_rests rests = grind arith
 
   pub plan_outside : port.phase ≡ Running → may_fetch port ≡ true → next_descriptor memory port.commands ≡ None
       → plan_of port memory ≡ NoCommandRing
-  plan_outside runs looks none = ap plan_here runs ∙ rw (looks, none)
+  plan_outside runs looks none = grind arith
 
   pub plan_fetches : (d : Descriptor) → port.phase ≡ Running → may_fetch port ≡ true
       → next_descriptor memory port.commands ≡ Some d → is_owned d ≡ true → plan_of port memory ≡ ToFetch d
-  plan_fetches d runs looks next owned = ap plan_here runs ∙ rw (looks, next, owned)
+  plan_fetches d runs looks next owned = grind arith
 
   pub plan_goes_on : port.phase ≡ Running → NothingToFetch port memory → plan_of port memory ≡ later_here
   plan_goes_on runs nothing = grind arith
 
   pub plan_executes : port.phase ≡ Running → NothingToFetch port memory → 0 < length port.exec.pending
       → plan_of port memory ≡ ToExecute
-  plan_executes runs nothing pending = plan_goes_on runs nothing ∙ grind arith
+  plan_executes runs nothing pending = grind arith
 
   module _ (runs : port.phase ≡ Running) (waits : Delivers port memory) where
     plan_speaks : {text : Option (List ℕ)} → next_text port ≡ text
@@ -153,12 +150,12 @@ module _ (port : PortState) (memory : List ℕ) where
 
     pub plan_lost : (text : List ℕ) → next_text port ≡ Some text → next_descriptor memory port.responses ≡ None
         → plan_of port memory ≡ NoResponseRing
-    plan_lost text next none = plan_speaks next ∙ rw none
+    plan_lost text next none = grind arith
 
     pub plan_delivers : (text : List ℕ) (d : Descriptor) → next_text port ≡ Some text
         → next_descriptor memory port.responses ≡ Some d → is_owned d ≡ true
         → plan_of port memory ≡ ToDeliver d (length text)
-    plan_delivers text d next is owned = plan_speaks next ∙ rw (is, owned)
+    plan_delivers text d next is owned = grind arith
 
     -- nothing is delivered: there is no message, or it waits
     pub data IsQuiet : Type 0 where

@@ -9,7 +9,7 @@ use Rattle.uda_port.specs.declared.phase.Fatal.TheVariants.{RingWrite, Initializ
 use Rattle.uda_port.specs.declared.profile.Profile.TheVariants.{Strict, Compatible}
 use Rattle.uda_port.specs.declared.play.HostEvent.TheVariants.{WriteIp, ReadIp, WriteSa, Word, Turn as TurnEvent}
 use Rattle.uda_port.specs.Port.{PortState, port_in_phase, port_after_ip_read}
-use Rattle.uda_port.specs.Startup.{has_bit, area_of, has_area, refuses_second, refuses_third, after_third, after_sa_write, after_purge_test_write, after_step4_write, failed_port, port_with_rings, after_wrap_request}
+use Rattle.uda_port.specs.Startup.{has_bit, area_of, has_area, refuses_second, refuses_third, after_third, after_sa_write, failed_port, port_with_rings, after_wrap_request}
 use Rattle.uda_port.specs.Plan.{Step, counted, stopped_polling, Rests, CommandRingLost, Unreadable, Exceeds, BadConnection, Fetches, Executes, DeliversEnd, Notifies, Waits, ResponseRingLost, NoRoom}
 use Rattle.uda_port.specs.Message.{message_in}
 use Rattle.uda_port.proofs.PlanLaws.{AnyCase, case_of, message_keeps, step_of}
@@ -64,12 +64,6 @@ module _ (cause : Fatal) (word : ℕ) (old new : PortState) (memory : List ℕ) 
   third_word profile false true set p q high area is lives = absurd (lives (rw (first is) at dead))
   third_word _ _ _ set p q high area is lives = absurd (cc)
 
-  purge_word : new ≡ after_purge_test_write old word → old.phase ≡ PurgeTest → ⊥
-  purge_word is p = grind arith
-
-  fourth_word : new ≡ after_step4_write old word → old.phase ≡ Step4 → ⊥
-  fourth_word is p = grind arith
-
   -- a port that is dead after a word was dead before it, or the word was fatal
   fatal_word : (p : Phase) {after : List ℕ} → old.phase ≡ p → (new, after) ≡ after_sa_write p old memory word
       → (old.phase ≡ Dead cause) ⊎ IsFatal
@@ -79,8 +73,8 @@ module _ (cause : Fatal) (word : ℕ) (old new : PortState) (memory : List ℕ) 
       inr (third_word old.profile _ _ _ p refl refl refl is
       (lives_on cause (port_with_rings old (area_of old.profile one two word)) word))
   fatal_word (Wrap before) p is = absurd (cc (phases (first is)))
-  fatal_word PurgeTest p is = absurd (purge_word (first is) p)
-  fatal_word Step4 p is = absurd (fourth_word (first is) p)
+  fatal_word PurgeTest p is = absurd (grind arith)
+  fatal_word Step4 p is = absurd (grind arith)
   fatal_word _ p is = inl (rw (first is) at dead)
 
 -- ---- a turn

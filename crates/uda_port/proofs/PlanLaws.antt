@@ -121,9 +121,6 @@ some_executed old memory j new memory_after x = by old.profile x.executes
     by (Compatible identity) it = omega (arith, slice_get_within {A = Command})
 
 module _ (port : PortState) (memory : List ℕ) where
-  abbrev later_here : Plan
-  later_here = plan_without_fetch port memory
-
   pub plan_rests : (port.phase ≡ Running → ⊥) → plan_of port memory ≡ AtRest
   plan_rests rests = grind arith
 
@@ -135,9 +132,6 @@ module _ (port : PortState) (memory : List ℕ) where
       → next_descriptor memory port.commands ≡ Some d → is_owned d ≡ true → plan_of port memory ≡ ToFetch d
   plan_fetches d runs looks next owned = grind arith
 
-  pub plan_goes_on : port.phase ≡ Running → NothingToFetch port memory → plan_of port memory ≡ later_here
-  plan_goes_on runs nothing = grind arith
-
   pub plan_executes : port.phase ≡ Running → NothingToFetch port memory → 0 < length port.exec.pending
       → plan_of port memory ≡ ToExecute
   plan_executes runs nothing pending = grind arith
@@ -146,7 +140,7 @@ module _ (port : PortState) (memory : List ℕ) where
     plan_speaks : {text : Option (List ℕ)} → next_text port ≡ text
         → plan_of port memory
         ≡ plan_later [] (option_map (λ (t : List ℕ). length t) text) (next_descriptor memory port.responses)
-    plan_speaks next = plan_goes_on runs waits.nothing_to_fetch ∙ rw (waits.nothing_pending, next)
+    plan_speaks next = grind arith
 
     pub plan_lost : (text : List ℕ) → next_text port ≡ Some text → next_descriptor memory port.responses ≡ None
         → plan_of port memory ≡ NoResponseRing

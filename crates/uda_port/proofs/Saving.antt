@@ -263,7 +263,7 @@ module _ (k : Counts) (old : PortState) (begun : nat_lt 0 k.deliveries ≡ nat_l
   }
   event ReadIp effect = record {
     counts = k;
-    leads = (ap (with_counts k) effect.0 ∙ sym (ip_read_same k old old.phase), effect.1);
+    leads = (rw (effect.0, ip_read_same k old old.phase), effect.1);
     begun = rw (effect.0, ip_read_deliveries old.phase old) begun;
   }
   event (WriteSa word) effect = record {

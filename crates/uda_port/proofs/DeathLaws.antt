@@ -1,25 +1,18 @@
 -- The causes of fatal errors, from the effect of each event.
-use Rattle.std.proofs.Common.{◌≡◌, ◌≢◌, ℕ, ◌⊎◌, inl, inr, Bool, true, false, List, [], ◌∷◌, length, Result, refl, ap, ◌∙◌, arith}
+use Rattle.std.proofs.Common.{◌≡◌, ◌≢◌, ℕ, ◌⊎◌, inl, inr, Bool, true, false, List, [], ◌∷◌, length, refl, ap, ◌∙◌, arith}
 use Rattle.std.specs.Prelude.{if◌then◌else◌}
 use Rattle.std.proofs.lemmas.List.Elements.{All-nil, All-cons, All-head, All-tail}
 use borrow.Author.Tests.{ltb-true, ltb-false}
-use Rattle.uda_packet.specs.declared.guest_command.GuestCommand.{GuestCommand}
-use Rattle.uda_packet.specs.declared.reply.Reply.{Reply}
-use Rattle.uda_port.specs.declared.phase.Phase.{Phase}
+use Rattle.uda_port.specs.declared.{phase.Phase.Phase, phase.Fatal.Fatal, profile.Profile.Profile, turn.Turn.Turn, play.HostEvent.HostEvent}
 use Rattle.uda_port.specs.declared.phase.Phase.TheVariants.{Step1, Step2, Step3, Wrap, PurgeTest, Step4, Running, Dead}
-use Rattle.uda_port.specs.declared.phase.Fatal.{Fatal}
 use Rattle.uda_port.specs.declared.phase.Fatal.TheVariants.{RingWrite, InitializationError}
-use Rattle.uda_port.specs.declared.profile.Profile.{Profile}
 use Rattle.uda_port.specs.declared.profile.Profile.TheVariants.{Strict, Compatible}
-use Rattle.uda_port.specs.declared.turn.Turn.{Turn}
-use Rattle.uda_port.specs.declared.play.HostEvent.{HostEvent}
 use Rattle.uda_port.specs.declared.play.HostEvent.TheVariants.{WriteIp, ReadIp, WriteSa, Word, Turn as TurnEvent}
 use Rattle.uda_port.specs.Port.{PortState, port_in_phase, port_after_ip_read}
-use Rattle.uda_port.specs.Startup.{has_bit, area_of, has_area, refuses_second, refuses_third, after_third, after_sa_write, after_purge_test_write, after_step4_write, failed_port, port_with_rings, after_wrap_request}
+use Rattle.uda_port.specs.Startup.{has_bit, area_of, has_area, refuses_second, refuses_third, after_third, after_sa_write, failed_port, port_with_rings, after_wrap_request}
 use Rattle.uda_port.specs.Plan.{Step, counted, stopped_polling, Rests, CommandRingLost, Unreadable, Exceeds, BadConnection, Fetches, Executes, DeliversEnd, Notifies, Waits, ResponseRingLost, NoRoom}
-use Rattle.uda_port.specs.Turn.{port_with_message}
 use Rattle.uda_port.specs.Message.{message_in}
-use Rattle.uda_port.proofs.PlanLaws.{AnyCase, case_of}
+use Rattle.uda_port.proofs.PlanLaws.{AnyCase, case_of, message_keeps, step_of}
 use Rattle.uda_port.specs.Events.{EventEffect, EventsEffect, FatalTurn, FatalWord, MeetsCause, LeavesIp, DiedAtEvent, StaysDead, DeathHasCause}
 
 -- the phase of equal ports
@@ -71,12 +64,6 @@ module _ (cause : Fatal) (word : ℕ) (old new : PortState) (memory : List ℕ) 
   third_word profile false true set p q high area is lives = absurd (lives (rw (first is) at dead))
   third_word _ _ _ set p q high area is lives = absurd (cc)
 
-  purge_word : new ≡ after_purge_test_write old word → old.phase ≡ PurgeTest → ⊥
-  purge_word is p = grind arith
-
-  fourth_word : new ≡ after_step4_write old word → old.phase ≡ Step4 → ⊥
-  fourth_word is p = grind arith
-
   -- a port that is dead after a word was dead before it, or the word was fatal
   fatal_word : (p : Phase) {after : List ℕ} → old.phase ≡ p → (new, after) ≡ after_sa_write p old memory word
       → (old.phase ≡ Dead cause) ⊎ IsFatal
@@ -86,16 +73,11 @@ module _ (cause : Fatal) (word : ℕ) (old new : PortState) (memory : List ℕ) 
       inr (third_word old.profile _ _ _ p refl refl refl is
       (lives_on cause (port_with_rings old (area_of old.profile one two word)) word))
   fatal_word (Wrap before) p is = absurd (cc (phases (first is)))
-  fatal_word PurgeTest p is = absurd (purge_word (first is) p)
-  fatal_word Step4 p is = absurd (fourth_word (first is) p)
+  fatal_word PurgeTest p is = absurd (grind arith)
+  fatal_word Step4 p is = absurd (grind arith)
   fatal_word _ p is = inl (rw (first is) at dead)
 
 -- ---- a turn
-
--- a message doesn't change the phase
-message_phase : (old : PortState) (message : Result GuestCommand Reply)
-    → (port_with_message old message).phase ≡ old.phase
-message_phase old message = grind arith
 
 module _ (cause : Fatal) (turn : Turn) (s : Step) (dead : s.new.phase ≡ Dead cause) where
   abbrev Met : Type 0
@@ -120,7 +102,7 @@ module _ (cause : Fatal) (turn : Turn) (s : Step) (dead : s.new.phase ≡ Dead c
   fatal_turn (Exceeds d before line is) = met before d.runs is (search line)
   fatal_turn (BadConnection d before line is) = met before d.runs is (search line)
   fatal_turn (Fetches d line) =
-      lives d.runs (phases line.others ∙ message_phase (counted s) (message_in s.old.profile line.packet))
+      lives d.runs (phases line.others ∙ phases (message_keeps (counted s) (message_in s.old.profile line.packet)))
   fatal_turn (Executes d nothing j is line) = lives d.runs (phases line.others)
   fatal_turn (DeliversEnd d r line) = lives d.runs (phases line.others)
   fatal_turn (Notifies d r line) = lives d.runs (phases line.others)
@@ -142,17 +124,14 @@ module _ (cause : Fatal) (old new : PortState) (memory memory_after : List ℕ) 
       → ((event ≢ WriteIp) × (old.phase ≡ Dead cause)) ⊎ MeetsCause cause event old memory
   fatal_event WriteIp goes dead = absurd (cc (phases goes.0))
   fatal_event ReadIp goes dead = inl ((λ is. cc), asked_dead cause old (rw goes.0 at dead))
-  fatal_event (WriteSa word) goes dead = elim (fatal_word cause word old new memory dead old.phase refl goes) [
-    | inl was ↦ inl ((λ is. cc), was)
-    | inr met ↦ inr met
-  ]
+  fatal_event (WriteSa word) goes dead =
+      elim (fatal_word cause word old new memory dead old.phase refl goes)
+      [ | inl was ↦ inl ((λ is. cc), was) | inr met ↦ inr met ]
   fatal_event (Word address word) goes dead = inl ((λ is. cc), rw goes.0 at dead)
   fatal_event TurnEvent goes dead =
-      let s : Step = record { old = old; memory = memory; new = new; memory_after = memory_after } in
-      elim (fatal_turn cause goes.0 s dead (case_of goes.0 s goes.1)) [
-        | inl was ↦ inl ((λ is. cc), was)
-        | inr met ↦ inr met
-      ]
+      let s = step_of (old, memory) (new, memory_after) in
+      elim (fatal_turn cause goes.0 s dead (case_of goes.0 s goes.1))
+      [ | inl was ↦ inl ((λ is. cc), was) | inr met ↦ inr met ]
 
   -- a dead port remains dead until IP is written
   dead_event : (event : HostEvent) → EventEffect event old memory new memory_after → event ≢ WriteIp
@@ -204,7 +183,8 @@ module _ (cause : Fatal) (new : PortState) (memory_after : List ℕ) where
   stays [] old memory played dead leaves = rw played.state dead
   stays (event ∷ rest) old memory played dead leaves =
       stays rest played.0.0 played.0.1 played.2
-      (dead_event cause old played.0.0 memory played.0.1 event played.1 (All-head (λ e. e ≢ WriteIp) event rest leaves) dead)
+      (dead_event cause old played.0.0 memory played.0.1 event played.1
+      (All-head (λ e. e ≢ WriteIp) event rest leaves) dead)
       (All-tail (λ e. e ≢ WriteIp) event rest leaves)
 
 pub death_has_cause : (events : List HostEvent) (old : PortState) (memory : List ℕ) (new : PortState)

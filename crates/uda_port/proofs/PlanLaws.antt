@@ -1,37 +1,25 @@
 -- A turn is one of the cases of its plan.
 use Rattle.std.proofs.Common.{◌≡◌, ℕ, ◌<◌, Bool, true, false, List, [], ◌∷◌, length, Option, Some, None, Result, refl, sym, ap, subst, ◌∙◌, arith}
-use Rattle.std.specs.Prelude.{option_map, slice_get}
-use Rattle.std.proofs.lemmas.Bool.{cond_both}
-use Rattle.std.proofs.lemmas.Option.{slice_get_within}
-use Rattle.uda_packet.specs.declared.command.Command.{Command}
-use Rattle.uda_packet.specs.declared.guest_command.GuestCommand.{GuestCommand}
-use Rattle.uda_packet.specs.declared.reply.Reply.{Reply}
+use Rattle.std.specs.Prelude.{option_map}
+use Rattle.std.proofs.lemmas.{Bool.cond_both, Option.slice_get_within}
+use Rattle.uda_packet.specs.declared.{command.Command.Command, guest_command.GuestCommand.GuestCommand, reply.Reply.Reply}
 use Rattle.uda_disk.specs.Units.{Units}
-use Rattle.uda_port.specs.MemoryUse.{TurnsAt}
-use Rattle.uda_port.specs.Message.{message_in}
-use Rattle.uda_port.specs.declared.descriptor.Descriptor.{Descriptor}
-use Rattle.uda_port.specs.declared.phase.Fatal.{Fatal}
+use Rattle.uda_port.specs.{MemoryUse.TurnsAt, Message.message_in, Events.Delivers, Port.PortState, Report.next_text, Fetch.IsNext, Startup.failed_port}
+use Rattle.uda_port.specs.declared.{descriptor.Descriptor.Descriptor, phase.Fatal.Fatal, phase.Phase.Phase, phase.Phase.TheVariants.Running, turn.Turn.Turn, plan.Plan.Plan, profile.Profile.Profile}
 use Rattle.uda_port.specs.declared.phase.Fatal.TheVariants as fatal
-use Rattle.uda_port.specs.declared.phase.Phase.{Phase}
-use Rattle.uda_port.specs.declared.phase.Phase.TheVariants.{Running}
-use Rattle.uda_port.specs.declared.turn.Turn.{Turn}
 use Rattle.uda_port.specs.declared.turn.Turn.TheVariants as did
-use Rattle.uda_port.specs.Events.{Delivers}
-use Rattle.uda_port.specs.declared.plan.Plan.{Plan}
 use Rattle.uda_port.specs.declared.plan.Plan.TheVariants.{AtRest, NoCommandRing, ToFetch, ToExecute, NoMessage, ToWait, NoResponseRing, ToDeliver}
-use Rattle.uda_port.specs.Plan.{plan_later, plan_running, plan_in, next_size, plan_without_fetch, plan_of}
-use Rattle.uda_port.specs.Plan.{Step, counted, stopped_polling, is_execution, is_executed, rest_turn, TurnIs, TurnCase, Rests, CommandRingLost, Unreadable, Exceeds, BadConnection, Fetches, Executes, DeliversEnd, Notifies, Waits, ResponseRingLost, NoRoom}
-use Rattle.uda_port.specs.declared.profile.Profile.{Profile}
+use Rattle.uda_port.specs.Plan.{plan_later, plan_running, plan_in, next_size, plan_without_fetch, plan_of, Step, counted, stopped_polling, is_execution, is_executed, rest_turn, TurnIs, TurnCase, Rests, CommandRingLost, Unreadable, Exceeds, BadConnection, Fetches, Executes, DeliversEnd, Notifies, Waits, ResponseRingLost, NoRoom}
 use Rattle.uda_port.specs.declared.profile.Profile.TheVariants.{Strict, Compatible}
-use Rattle.uda_port.specs.Port.{PortState}
-use Rattle.uda_port.specs.Report.{next_text}
-use Rattle.uda_port.specs.Fetch.{IsNext}
 use Rattle.uda_port.specs.Ring.{is_owned, next_descriptor}
-use Rattle.uda_port.specs.Startup.{failed_port}
 use Rattle.uda_port.specs.Turn.{Unchanged, TurnEffect, RunningTurn, NothingToFetch, NothingToDeliver, ExecutesOne, ExecutesFor, Fails, InFetch, InRest, may_fetch, port_with_message}
 use Rattle.uda_port.proofs.TurnLaws.{attention_first, first_text}
 
 -- ---- a turn is one of its cases
+
+-- the effect of a turn in a phase
+abbrev Goes : Step → Turn → Phase → Type 0
+Goes s turn phase = TurnEffect phase s.old s.memory turn s.new s.memory_after
 
 module _ (Is : ℕ → Type 0) (s : Step) where
   -- the pending command that a turn executed, of those that it may execute
@@ -73,13 +61,12 @@ module _ (Is : ℕ → Type 0) (s : Step) where
   ran did.Idle runs goes pick = Waits (assumption) (assumption) goes.rest.1.0 goes.rest.1.1
   ran did.Dead runs goes pick = died goes.cause goes.before runs goes.fails goes.died
 
-  rested : (phase : Phase) (turn : Turn) → s.old.phase ≡ phase
-      → TurnEffect phase s.old s.memory turn s.new s.memory_after → Picks turn → TurnCase Is turn s
+  rested : (phase : Phase) (turn : Turn) → s.old.phase ≡ phase → Goes s turn phase → Picks turn
+      → TurnCase Is turn s
   rested Running turn is goes pick = ran turn is goes pick
   rested _ turn is goes pick = Rests (λ runs. absurd (cc)) (goes.answer ∙ sym (ap rest_turn is)) goes.unchanged
 
-  pub case_by : (turn : Turn) → TurnEffect s.old.phase s.old s.memory turn s.new s.memory_after → Picks turn
-      → TurnCase Is turn s
+  case_by : (turn : Turn) → Goes s turn s.old.phase → Picks turn → TurnCase Is turn s
   case_by turn goes pick = rested s.old.phase turn refl goes pick
 
 -- any turn
@@ -88,25 +75,23 @@ AnyCase turn s = TurnCase (λ j. Unit {0}) turn s
 
 pub case_of : (turn : Turn) (s : Step) → TurnEffect s.old.phase s.old s.memory turn s.new s.memory_after
     → AnyCase turn s
-case_of turn s goes = case_by (λ j. Unit {0}) s turn goes (λ j x is. (j, (tt, x)))
+case_of turn s goes = case_by _ s turn goes (λ j x is. (j, (tt, x)))
 
 -- ---- and each case is a turn
 
 module _ (Is : ℕ → Type 0) (turn : Turn) (s : Step) where
   at_rest : (phase : Phase) → (phase ≡ Running → ⊥) → turn ≡ rest_turn phase
-      → Unchanged s.old s.memory s.new s.memory_after
-      → TurnEffect phase s.old s.memory turn s.new s.memory_after
+      → Unchanged s.old s.memory s.new s.memory_after → Goes s turn phase
   at_rest Running rests answer same = absurd (rests refl)
   at_rest _ rests answer same = assumption
 
   running : {wanted : Turn} → TurnIs wanted turn s.old → RunningTurn s.old s.memory wanted s.new s.memory_after
-      → TurnEffect s.old.phase s.old s.memory turn s.new s.memory_after
-  running {wanted = wanted} d goes =
-      rw d.answer (subst (λ (p : Phase). TurnEffect p s.old s.memory wanted s.new s.memory_after) (sym d.runs) goes)
+      → Goes s turn s.old.phase
+  running {wanted = wanted} d goes = rw d.answer (subst (Goes s wanted) (sym d.runs) goes)
 
   dead : {cause : Fatal} (before : PortState) → TurnIs did.Dead turn s.old
       → Fails cause (counted s) s.memory before s.memory_after → s.new ≡ failed_port before cause
-      → TurnEffect s.old.phase s.old s.memory turn s.new s.memory_after
+      → Goes s turn s.old.phase
   dead before d fails is = running d (record { cause = _; before = before; fails = fails; died = is })
 
   pub effect_of : TurnCase Is turn s → TurnEffect s.old.phase s.old s.memory turn s.new s.memory_after
@@ -136,58 +121,35 @@ some_executed old memory j new memory_after x = by old.profile x.executes
     by (Compatible identity) it = omega (arith, slice_get_within {A = Command})
 
 module _ (port : PortState) (memory : List ℕ) where
-  abbrev later_here : Plan
-  later_here = plan_without_fetch port memory
-
-  abbrev plan_here : Phase → Plan
-  plan_here phase = plan_in phase (plan_running (may_fetch port) (next_descriptor memory port.commands) later_here)
-
   pub plan_rests : (port.phase ≡ Running → ⊥) → plan_of port memory ≡ AtRest
-  plan_rests rests = by port.phase rests
-    where
-      by : (phase : Phase) → (phase ≡ Running → ⊥) → plan_here phase ≡ AtRest
-      by Running not = absurd (not refl)
-      by _ not = refl
+  plan_rests rests = grind arith
 
   pub plan_outside : port.phase ≡ Running → may_fetch port ≡ true → next_descriptor memory port.commands ≡ None
       → plan_of port memory ≡ NoCommandRing
-  plan_outside runs looks none = ap plan_here runs ∙ rw (looks, none)
+  plan_outside runs looks none = grind arith
 
   pub plan_fetches : (d : Descriptor) → port.phase ≡ Running → may_fetch port ≡ true
       → next_descriptor memory port.commands ≡ Some d → is_owned d ≡ true → plan_of port memory ≡ ToFetch d
-  plan_fetches d runs looks next owned = ap plan_here runs ∙ rw (looks, next, owned)
-
-  pub plan_goes_on : port.phase ≡ Running → NothingToFetch port memory → plan_of port memory ≡ later_here
-  plan_goes_on runs nothing = ap plan_here runs ∙ by (may_fetch port) refl
-    where
-      by : (b : Bool) → may_fetch port ≡ b
-          → plan_running b (next_descriptor memory port.commands) later_here ≡ later_here
-      by false is = refl
-      by true is = let f = nothing is in rw (f.is_next, f.not_owned)
+  plan_fetches d runs looks next owned = grind arith
 
   pub plan_executes : port.phase ≡ Running → NothingToFetch port memory → 0 < length port.exec.pending
       → plan_of port memory ≡ ToExecute
-  plan_executes runs nothing pending = plan_goes_on runs nothing ∙ by port.exec.pending pending
-    where
-      by : (cs : List Command) → 0 < length cs
-          → plan_later cs (next_size port) (next_descriptor memory port.responses) ≡ ToExecute
-      by [] none = absurd (omega arith)
-      by (c ∷ cs) some = refl
+  plan_executes runs nothing pending = grind arith
 
   module _ (runs : port.phase ≡ Running) (waits : Delivers port memory) where
     plan_speaks : {text : Option (List ℕ)} → next_text port ≡ text
         → plan_of port memory
         ≡ plan_later [] (option_map (λ (t : List ℕ). length t) text) (next_descriptor memory port.responses)
-    plan_speaks next = plan_goes_on runs waits.nothing_to_fetch ∙ rw (waits.nothing_pending, next)
+    plan_speaks next = grind arith
 
     pub plan_lost : (text : List ℕ) → next_text port ≡ Some text → next_descriptor memory port.responses ≡ None
         → plan_of port memory ≡ NoResponseRing
-    plan_lost text next none = plan_speaks next ∙ rw none
+    plan_lost text next none = grind arith
 
     pub plan_delivers : (text : List ℕ) (d : Descriptor) → next_text port ≡ Some text
         → next_descriptor memory port.responses ≡ Some d → is_owned d ≡ true
         → plan_of port memory ≡ ToDeliver d (length text)
-    plan_delivers text d next is owned = plan_speaks next ∙ rw (is, owned)
+    plan_delivers text d next is owned = grind arith
 
     -- nothing is delivered: there is no message, or it waits
     pub data IsQuiet : Type 0 where
@@ -202,6 +164,11 @@ module _ (port : PortState) (memory : List ℕ) where
         by (Some text) next = let f = nothing text next in Waiting (plan_speaks next ∙ rw (f.is_next, f.not_owned))
 
 -- ---- a turn executes a command exactly if that is the plan
+
+-- a message changes only the executor and the queue
+pub message_keeps : (old : PortState) (m : Result GuestCommand Reply) → port_with_message old m
+    ≡ record old { exec = (port_with_message old m).exec; waiting = (port_with_message old m).waiting }
+message_keeps old m = grind arith
 
 -- a message changes no unit
 pub units_with : (old : PortState) (message : Result GuestCommand Reply)
@@ -236,45 +203,40 @@ module _ (Is : ℕ → Type 0) (turn : Turn) (s : Step) where
 
   pub outcome : TurnCase Is turn s → Outcome Is turn s
   outcome (Rests rests answer same) =
-      other (plan_rests s.old s.memory rests) answer refl (never_rest s.old.phase) (ap units_of same.state)
+      other (plan_rests s.old s.memory rests) answer refl (never_rest s.old.phase) (rw same.state)
   outcome (CommandRingLost d line same) =
-      other (plan_outside s.old s.memory d.runs line.looks line.no_descriptor) d.answer refl refl
-      (ap units_of same.state)
+      other (plan_outside s.old s.memory d.runs line.looks line.no_descriptor) d.answer refl refl (rw same.state)
   outcome (Unreadable d line same) =
-      let l = line.no_packet in taken d line.looks l.is_next l.owned refl (ap units_of same.state)
+      taken d line.looks line.no_packet.is_next line.no_packet.owned refl (rw same.state)
   outcome (Exceeds d before line is) =
       let t = line.taken.takes in
-      taken d line.taken.looks t.is_next t.owned refl (ap units_of is ∙ ap units_of line.taken.others)
+      taken d line.taken.looks t.is_next t.owned refl (rw (is, line.taken.others))
   outcome (BadConnection d before line is) =
       let t = line.taken.takes in
-      taken d line.taken.looks t.is_next t.owned refl (ap units_of is ∙ ap units_of line.taken.others)
+      taken d line.taken.looks t.is_next t.owned refl (rw (is, line.taken.others))
   outcome (Fetches d line) =
       let t = line.takes in
       taken d line.looks t.is_next t.owned refl
-      (ap units_of line.others ∙ units_with (counted s) (message_in s.old.profile line.packet))
+      (rw line.others (units_with (counted s) (message_in s.old.profile line.packet)))
   outcome (Executes d nothing j is line) =
-      Executing (plan_executes s.old s.memory d.runs nothing
-      (some_executed (stopped_polling s) s.memory j s.new s.memory_after line)) d.answer j is line
+      Executing (plan_executes s.old s.memory d.runs nothing (some_executed _ _ _ _ _ line)) d.answer j is line
   outcome (DeliversEnd d reaches line) =
       let t = line.puts in
-      other (plan_delivers _ _ d.runs reaches _ _ (first_text s.old line.end line.none_due
-      (ap (λ (w : List Reply). slice_get w 0) line.first)) t.is_next t.owned) d.answer refl refl
-      (ap units_of line.others)
+      other (plan_delivers _ _ d.runs reaches _ _ (first_text s.old line.end line.none_due (rw line.first)) t.is_next
+      t.owned) d.answer refl refl (rw line.others)
   outcome (Notifies d reaches line) =
       let t = line.puts in
       other (plan_delivers _ _ d.runs reaches _ _ (attention_first s.old line.text line.message) t.is_next t.owned)
-      d.answer refl refl (ap units_of line.others)
+      d.answer refl refl (rw line.others)
   outcome (Waits d reaches none same) = elim (plan_quiet _ _ d.runs reaches none) [
-    | NoneWaits plan ↦ other plan d.answer refl refl (ap units_of same.state)
-    | Waiting plan ↦ other plan d.answer refl refl (ap units_of same.state)
+    | NoneWaits plan ↦ other plan d.answer refl refl (rw same.state)
+    | Waiting plan ↦ other plan d.answer refl refl (rw same.state)
   ]
   outcome (ResponseRingLost d reaches line same) =
-      other (plan_lost _ _ d.runs reaches _ line.is_next line.no_descriptor) d.answer refl refl
-      (ap units_of same.state)
+      other (plan_lost _ _ d.runs reaches _ line.is_next line.no_descriptor) d.answer refl refl (rw same.state)
   outcome (NoRoom d reaches line same) =
       let l = line.no_room in
-      other (plan_delivers _ _ d.runs reaches _ _ line.is_next l.is_next l.owned) d.answer refl refl
-      (ap units_of same.state)
+      other (plan_delivers _ _ d.runs reaches _ _ line.is_next l.is_next l.owned) d.answer refl refl (rw same.state)
 
   -- a turn that is to execute a command does
   pub executed_case : TurnCase Is turn s → plan_of s.old s.memory ≡ ToExecute → turn ≡ did.Executed
@@ -282,19 +244,19 @@ module _ (Is : ℕ → Type 0) (turn : Turn) (s : Step) where
 
 -- ---- a turn that executes the command at an index, if it executes one
 
-abbrev step_of : PortState × List ℕ → PortState × List ℕ → Step
+abbrev pub step_of : PortState × List ℕ → PortState × List ℕ → Step
 step_of before after = record { old = before.0; memory = before.1; new = after.0; memory_after = after.1 }
 
 pub case_at : (place : ℕ) (before : PortState × List ℕ) (turn : Turn) (after : PortState × List ℕ)
     → TurnsAt place before turn after → TurnCase (λ k. k ≡ place) turn (step_of before after)
 case_at place before turn after it =
-    case_by (λ k. k ≡ place) (step_of before after) turn it.goes (λ k x is. (place, (refl, it.executes is)))
+    case_by _ _ turn it.goes (λ k x is. (place, (refl, it.executes is)))
 
 pub turns_at : (place : ℕ) (before : PortState × List ℕ) (turn : Turn) (after : PortState × List ℕ)
     → TurnCase (λ k. k ≡ place) turn (step_of before after) → TurnsAt place before turn after
 turns_at place before turn after c = record {
-  goes = effect_of (λ k. k ≡ place) turn (step_of before after) c;
-  executes = λ executed. elim (outcome (λ k. k ≡ place) turn (step_of before after) c) [
+  goes = effect_of _ _ _ c;
+  executes = λ executed. elim (outcome _ _ _ c) [
     | Executing plan is j at x ↦ rw at at x
     | Other none never units ↦ absurd (cc)
   ];

@@ -1,34 +1,19 @@
 -- Ports that differ only in their counts have the same future.
-use Rattle.std.proofs.Common.{◌≡◌, ℕ, ◌+◌, ◌<◌, ◌≤◌, ◌↔◌, ◌==◌, Bool, true, false, ◌||◌, List, [], ◌∷◌, length, Result, refl, sym, ap, ◌∙◌, arith}
+use Rattle.std.proofs.Common.{◌≡◌, ℕ, ◌+◌, ◌<◌, ◌≤◌, ◌↔◌, Bool, true, false, ◌||◌, List, [], ◌∷◌, length, Result, refl, sym, ap, ◌∙◌, arith}
 use Rattle.std.specs.Prelude.{not, nat_lt, IsTrue}
-use Rattle.uda_packet.specs.declared.guest_command.GuestOp.{GuestOp}
-use Rattle.std.proofs.lemmas.Bool.{eqb-true, eq-eqb, and_parts, ltb_from_iff}
-use Rattle.std.proofs.lemmas.Bool.Decides.{nat_tests}
-use Rattle.std.proofs.lemmas.List.{nil_from_length}
-use Rattle.uda_packet.specs.declared.reply.Reply.{Reply}
-use Rattle.uda_packet.specs.declared.guest_command.GuestCommand.{GuestCommand}
-use Rattle.uda_exec.specs.Disks.{ExecState}
+use Rattle.uda_packet.specs.declared.{guest_command.GuestOp.GuestOp, reply.Reply.Reply, guest_command.GuestCommand.GuestCommand}
+use Rattle.std.proofs.lemmas.Bool.{eq-eqb, and_parts, ltb_from_iff}
+use Rattle.std.proofs.lemmas.{Bool.Decides.nat_tests, List.nil_from_length}
+use Rattle.uda_exec.specs.{Disks.ExecState, Saved.saved_exec, declared.saved.SavedExec.SavedExec}
 use Rattle.uda_exec.proofs.Saving.{restored_is_saved as exec_is_saved}
-use Rattle.uda_exec.specs.Saved.{saved_exec}
-use Rattle.uda_exec.specs.declared.saved.SavedExec.{SavedExec}
-use Rattle.uda_port.specs.declared.phase.Phase.{Phase}
-use Rattle.uda_port.specs.declared.profile.Profile.{Profile}
-use Rattle.uda_port.specs.declared.profile.Profile.TheVariants.{Strict}
-use Rattle.uda_port.specs.declared.packet.Fetched.{Fetched as Packet}
-use Rattle.uda_port.specs.declared.port.Port.TheInside.{Inside}
-use Rattle.uda_port.specs.declared.saved.Saved.{Saved}
-use Rattle.uda_port.specs.PortInvariant.{PortInvariant}
-use Rattle.uda_port.specs.declared.turn.Turn.{Turn}
-use Rattle.uda_port.specs.declared.play.HostEvent.{HostEvent}
+use Rattle.uda_port.specs.declared.{phase.Phase.Phase, profile.Profile.Profile, profile.Profile.TheVariants.Strict, packet.Fetched.Fetched as Packet, port.Port.TheInside.Inside, saved.Saved.Saved, turn.Turn.Turn, play.HostEvent.HostEvent}
+use Rattle.uda_port.specs.{PortInvariant.PortInvariant, Ring.RingState, Message.message_in, Startup.after_sa_write}
 use Rattle.uda_port.specs.declared.play.HostEvent.TheVariants.{WriteIp, ReadIp, WriteSa, Word, Turn as TurnEvent}
-use Rattle.uda_port.specs.Ring.{RingState}
-use Rattle.uda_port.specs.Message.{message_in}
 use Rattle.uda_port.specs.Port.{PortState, next_grant, credits_granted, port_restarted, port_after_ip_read}
-use Rattle.uda_port.specs.Startup.{after_sa_write}
 use Rattle.uda_port.specs.Turn.{Unchanged, port_with_message, TakesPacket, TurnEffect}
 use Rattle.uda_port.specs.Plan.{Step, counted, Rests, CommandRingLost, Unreadable, Exceeds, BadConnection, Fetches, Executes, DeliversEnd, Notifies, Waits, ResponseRingLost, NoRoom}
 use Rattle.uda_port.specs.Events.{EventEffect, EventsEffect}
-use Rattle.uda_port.proofs.PlanLaws.{AnyCase, case_of, effect_of}
+use Rattle.uda_port.proofs.PlanLaws.{AnyCase, case_of, effect_of, message_keeps, step_of}
 use Rattle.uda_port.specs.Possible.{has_run, has_phase, can_interrupt, rings_fit, guest_fits, queue_fits, HasNoWork}
 use Rattle.uda_port.proofs.PossibleLaws.{first_position}
 use Rattle.uda_port.specs.Saved.{work_fits, has_no_work, profile_fits, saved_port, port_restored, is_consistent, outstanding, credits_due, lists_ops, least_deliveries, Counts, with_counts, RestoredIsSaved, SameFuture}
@@ -87,12 +72,11 @@ state_of p = record {
 
 pub consistent : {S : Type 0} (p : Inside S) → PortInvariant p → is_consistent (saved_port (state_of p)) ≡ true
 consistent p is =
-    let s = saved_port (state_of p) in
-    let due = due_of p.deliveries p.credits p.fetches (outstanding s) is.credits is.conserved in
-    let work = work_by (has_run p.phase) (has_no_work s) (λ not_run.
-    let none = is.possible.no_work not_run in
-    rw (none.not_polling, none.none_delivered, none.none_pending, none.none_waiting, none.at_first)) in
     let q = is.possible in
+    let due = due_of _ _ _ _ is.credits is.conserved in
+    let work = work_by (has_run p.phase) (has_no_work (saved_port (state_of p))) (λ not_run.
+    let none = q.no_work not_run in
+    rw (none.not_polling, none.none_delivered, none.none_pending, none.none_waiting, none.at_first)) in
     rw (q.phase, q.interrupts, q.rings, q.guest, eq-eqb _ _ due, work, lists_none _ _ is.strict, q.queue)
 
 pub is_saved : {S : Type 0} (p : Inside S) (waiting : List Reply) (exec : SavedExec) → PortInvariant p
@@ -117,14 +101,6 @@ pub record Agrees (s : Saved) : Type 0 where
   pub queue : queue_fits s.profile s.waiting.items ≡ true
   pub no_work : has_run s.phase ≡ false → SavedNoWork s
 
-credits_agree : (begun : Bool) (credits n : ℕ) → credits + n ≡ credits_due begun
-    → credits + (least_deliveries begun + n) ≡ credits_granted (least_deliveries begun)
-credits_agree begun credits n is = grind arith
-
-none_listed : (profile : Profile) (ops : List GuestOp) → not (lists_ops profile ops) ≡ true → profile ≡ Strict
-    → ops ≡ []
-none_listed profile ops none is = grind arith
-
 -- the command ring isn't below the response ring
 placed_in_order : (profile : Profile) (phase : Phase) (a b : RingState) → rings_fit profile phase a b ≡ true
     → a.base ≤ b.base
@@ -140,24 +116,23 @@ no_work_by s is = record {
 }
 
 pub agrees : (s : Saved) → is_consistent s ≡ true → Agrees s
-agrees s consistent =
-    let phase = and_parts _ _ consistent in
+agrees s is =
+    let phase = and_parts _ _ is in
     let interrupts = and_parts _ _ phase.1 in
     let rings = and_parts _ _ interrupts.1 in
     let guest = and_parts _ _ rings.1 in
     let both = and_parts (work_fits s) (profile_fits s) guest.1 in
-    let work = and_parts (s.credits + outstanding s == credits_due s.begun) _ both.0 in
-    let of_profile = and_parts (not (lists_ops s.profile s.exec.guest_ops.items)) _ both.1 in
+    let work = and_parts _ (has_run s.phase || has_no_work s) both.0 in
     record {
-      credits = credits_agree s.begun s.credits (outstanding s) (eqb-true _ _ work.0);
+      credits = grind (arith, nat_tests);
       ordered = placed_in_order s.profile s.phase s.responses s.commands rings.0;
       begun = grind arith;
-      strict = none_listed _ _ of_profile.0;
+      strict = grind arith;
       phase = phase.0;
       interrupts = interrupts.0;
       rings = rings.0;
       guest = guest.0;
-      queue = of_profile.1;
+      queue = (and_parts _ _ both.1).1;
       no_work = λ not_run. no_work_by s (rw not_run at work.1);
     }
 
@@ -177,10 +152,6 @@ record LeadsAlso (P : PortState → Type 0) (new : PortState) : Type 0 where
 message_same : (k : Counts) (old : PortState) (m : Result GuestCommand Reply)
     → port_with_message (with_counts k old) m ≡ with_counts k (port_with_message old m)
 message_same k old m = grind arith
-
-message_deliveries : (old : PortState) (m : Result GuestCommand Reply)
-    → (port_with_message old m).deliveries ≡ old.deliveries
-message_deliveries old m = grind arith
 
 -- a turn of a port with other counts
 module _ (k : Counts) (turn : Turn) (s : Step) (begun : nat_lt 0 k.deliveries ≡ nat_lt 0 s.old.deliveries) where
@@ -220,7 +191,7 @@ module _ (k : Counts) (turn : Turn) (s : Step) (begun : nat_lt 0 k.deliveries �
   turns_also (Fetches d line) =
       let more = record once { fetches = k.fetches + 1 } in
       let m = message_in s.old.profile line.packet in
-      leaves more line.others (rw (message_deliveries (counted s) m) begun)
+      leaves more line.others (rw (message_keeps (counted s) m) begun)
       (Fetches (assumption) (record {
         packet = line.packet;
         looks = line.looks;
@@ -292,7 +263,7 @@ module _ (k : Counts) (old : PortState) (begun : nat_lt 0 k.deliveries ≡ nat_l
   }
   event ReadIp effect = record {
     counts = k;
-    leads = (ap (with_counts k) effect.0 ∙ sym (ip_read_same k old old.phase), effect.1);
+    leads = (rw (effect.0, ip_read_same k old old.phase), effect.1);
     begun = rw (effect.0, ip_read_deliveries old.phase old) begun;
   }
   event (WriteSa word) effect = record {
@@ -306,7 +277,7 @@ module _ (k : Counts) (old : PortState) (begun : nat_lt 0 k.deliveries ≡ nat_l
     begun = rw effect.0 begun;
   }
   event TurnEvent effect =
-      let s : Step = record { old = old; memory = memory; new = new; memory_after = memory_after } in
+      let s = step_of (old, memory) (new, memory_after) in
       let x = turns_also k effect.0 s begun (case_of effect.0 s effect.1) in
       record { counts = x.counts; leads = (effect.0, x.leads); begun = x.begun }
 
@@ -332,7 +303,7 @@ all_events (e ∷ rest) k old memory new memory_after begun effect =
 pub same_future : SameFuture
 same_future = record {
   turns = λ a b memory turn new memory_after same effect.
-      let s : Step = record { old = a; memory = memory; new = new; memory_after = memory_after } in
+      let s = step_of (a, memory) (new, memory_after) in
       let x = turns_also same.counts turn s same.begun (case_of turn s effect) in
       record {
         left = with_counts x.counts new;

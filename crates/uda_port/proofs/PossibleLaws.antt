@@ -32,31 +32,33 @@ use Rattle.uda_port.specs.declared.phase.Phase.{Phase}
 use Rattle.uda_port.specs.declared.phase.Phase.TheVariants.{Step1, Step2, Step3, Wrap, Step4, Running, Dead}
 use Rattle.uda_port.specs.declared.profile.Profile.{Profile}
 use Rattle.uda_port.specs.declared.profile.Profile.TheVariants.{Strict, Compatible}
-use Rattle.uda_port.specs.Guest.{GUEST_AT_FIRST, guest_restarted, attention_set, guest_after, is_online_now, first_due}
+use Rattle.uda_port.specs.Guest.{guest_restarted, attention_set, guest_after, is_online_now, first_due}
 use Rattle.uda_port.specs.Interrupt.{NO_INTERRUPTS, interrupts_asked, has_vector, raised, raised_by_step, noted, served, vector_of, IsVectorAddress}
-use Rattle.uda_port.specs.Possible.{has_run, has_rings, has_phase, is_vector, are_asked_by, settings_fit, is_past_steps, can_interrupt, is_silent, is_base_by, is_next_to, rings_fit, none_due, is_guest_running, guest_fits, is_basic_body, are_basic, queue_fits, is_first_position}
+use Rattle.uda_port.specs.Possible.{has_run, has_rings, has_phase, is_vector, are_asked_by, settings_fit, is_past_steps, can_interrupt, is_silent, is_base_by, is_next_to, rings_fit, none_due, is_guest_running, guest_fits, is_basic_body, are_basic, queue_fits, HasNoWork, is_first_position}
+use Rattle.uda_port.specs.PortInvariant.{IsPossible}
+use Rattle.uda_port.specs.declared.port.Port.TheInside.{Inside}
 use Rattle.uda_port.specs.Ring.{RingState}
 use Rattle.uda_port.specs.Startup.{has_bit}
 
 -- ---- a new port
 
-pub starts_phase : (profile : Profile) → has_phase profile Step1 ≡ true
-starts_phase Strict = refl
-starts_phase _ = refl
-
-pub starts_interrupts : (profile : Profile) → can_interrupt profile Step1 NO_INTERRUPTS ≡ true
-starts_interrupts Strict = refl
-starts_interrupts _ = refl
-
-pub starts_guest : (profile : Profile) → guest_fits profile Step1 GUEST_AT_FIRST ≡ true
-starts_guest profile = or_right (is_guest_running profile Step1) _ refl
-
-pub restarts_guest : (profile : Profile) (guest : Guest) → guest_fits profile Step1 (guest_restarted guest) ≡ true
-restarts_guest profile guest = or_right (is_guest_running profile Step1) _ refl
-
-pub starts_queue : (profile : Profile) → queue_fits profile [] ≡ true
-starts_queue Strict = refl
-starts_queue _ = refl
+pub starts : {S : Type 0} (guest : Guest) (p : Inside S) → p.phase ≡ Step1 → p.interrupts ≡ NO_INTERRUPTS
+    → p.responses ≡ record { base = 0; count = 1; place = 0 } → p.commands ≡ record { base = 0; count = 1; place = 0 }
+    → p.guest ≡ guest_restarted guest
+    → HasNoWork p.polling p.deliveries p.exec.pending p.waiting.items p.exec.position → IsPossible p
+starts guest p step silent responses commands restarted none = record {
+  phase = rw step (by p.profile).0;
+  interrupts = rw (step, silent) (by p.profile).1;
+  rings = rw (step, responses, commands) refl;
+  guest = rw (step, restarted) (or_right (is_guest_running p.profile Step1) _ refl);
+  queue = rw none.none_waiting (by p.profile).2;
+  no_work = λ _. none;
+}
+  where
+    by : (profile : Profile) → (has_phase profile Step1 ≡ true) × (can_interrupt profile Step1 NO_INTERRUPTS ≡ true)
+        × (queue_fits profile [] ≡ true)
+    by Strict = (refl, refl, refl)
+    by _ = (refl, refl, refl)
 
 -- ---- interrupts
 

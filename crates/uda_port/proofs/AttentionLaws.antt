@@ -90,7 +90,8 @@ others_left p xs =
     let n = position_or_len p xs in
     omega (arith, length-append (take n xs) (drop (n + 1) xs), length-take n xs, length-drop (n + 1) xs)
 
-at_once : (body : ReplyBody) (r : Reply) (exec : ExecState) → length (exec_for body r exec).pending ≤ length exec.pending
+at_once : (body : ReplyBody) (r : Reply) (exec : ExecState)
+    → length (exec_for body r exec).pending ≤ length exec.pending
 at_once (body.Abort named) r exec = others_left (is_named r.unit named) exec.pending
 at_once _ r exec = omega arith
 
@@ -110,7 +111,8 @@ some_of : {A : Type 0} (o : Option A) → IsSome o → (x : A) × (o ≡ Some x)
 some_of None is = absurd (cc)
 some_of (Some x) is = (x, refl)
 
-module _ (old : PortState) (memory : List ℕ) (new : PortState) (memory_after : List ℕ) (may : MayNotify old memory) where
+module _ (old : PortState) (memory : List ℕ) (new : PortState) (memory_after : List ℕ)
+    (may : MayNotify old memory) where
   running_first : (turn : Turn) → RunningTurn old memory turn new memory_after → goes_before_ends turn ≡ true
   running_first Delivered goes = absurd (cc (may.due, goes.rest.1.none_due))
   running_first Idle goes =

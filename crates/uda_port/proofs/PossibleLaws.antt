@@ -121,7 +121,8 @@ silent_vector i is =
 
 asked_vector : (first : ℕ) (i : Interrupts) → are_asked_by first i ≡ true → is_vector i.vector ≡ true
 asked_vector first i is =
-    let four : i.vector ≡ 4 * (first % 0x80) = eqb-true _ _ (and_parts (same_flag i.enabled (has_bit first 7)) _ is).1 in
+    let four : i.vector ≡ 4 * (first % 0x80) = eqb-true _ _
+    (and_parts (same_flag i.enabled (has_bit first 7)) _ is).1 in
     and_from (i.vector % 4 == 0) (nat_le i.vector 0x1FC) (eq-eqb _ _ (omega arith)) (le-leb _ _ (omega arith))
 
 has_vector_form : (phase : Phase) (i : Interrupts) → settings_fit phase i ≡ true → is_vector i.vector ≡ true
@@ -196,7 +197,7 @@ requested_address : (profile : Profile) (phase : Phase) (i : Interrupts) → can
     → i.requested ≡ true → IsVectorAddress i.vector
 requested_address Strict phase i is requested =
     let none = (and_parts (i.vector == 0) _ (and_parts (not i.enabled) _ is).1).1 in
-    absurd (true≢false (sym none ∙ ap not requested))
+    absurd (cc)
 requested_address _ phase i is requested =
     let parts = and_parts (settings_fit phase i) _ is in
     is_address i.vector (has_vector_form phase i parts.0)
@@ -294,16 +295,14 @@ first_position p is =
 
 -- ---- a running port
 
-pub no_rest : (phase : Phase) → phase ≡ Running → has_run phase ≡ false → ⊥
-no_rest phase runs is = true≢false (sym (ap has_run runs) ∙ is)
-
 pub flags_fit : (profile : Profile) (phase : Phase) (p : Fetched) (m : Result GuestCommand Reply) (guest : Guest)
     → phase ≡ Running → guest_fits profile phase guest ≡ true
     → guest_fits profile phase (flags_kept profile p m guest) ≡ true
 flags_fit Strict phase p m guest runs is = is
 flags_fit _ phase p m guest runs is = rw runs refl
 
-unset_by : (runs : Bool) (guest : Guest) (drive : ℕ) → (runs || ((guest.flags == 0) && none_due guest.attentions)) ≡ true
+unset_by : (runs : Bool) (guest : Guest) (drive : ℕ)
+    → (runs || ((guest.flags == 0) && none_due guest.attentions)) ≡ true
     → (runs || ((guest.flags == 0) && none_due (set guest.attentions drive false))) ≡ true
 unset_by true guest drive is = refl
 unset_by _ guest drive is =

@@ -132,13 +132,8 @@ module _ (old : PortState) (memory : List ℕ) (new : PortState) (memory_after :
       ))
   running_nearer Executed goes =
       let one = goes.rest.1 in
-      omega (
-        arith,
-        ap (λ (p : PortState). p.credits) one.others,
-        executed old.profile goes.rest.0 old.exec memory one.end new.exec memory_after one.executes,
-        ap (λ (p : PortState). due_count p.guest.attentions) one.others,
-        after_end one.end old.guest,
-      )
+      let fewer_left = executed old.profile goes.rest.0 old.exec memory one.end new.exec memory_after one.executes in
+      rw one.others (omega (arith, fewer_left, after_end one.end old.guest))
   running_nearer Notified goes =
       let one = goes.rest.1 in rw one.others (omega (arith, fewer old.guest.attentions one.drive one.due))
   running_nearer Dead goes = tt

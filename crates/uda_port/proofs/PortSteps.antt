@@ -56,10 +56,6 @@ dies p cause can is =
 
 -- ---- the first word
 
-first_accepted : (profile : Profile) (word : ℕ) → is_first_word word ≡ true → has_phase profile (Step2 word) ≡ true
-first_accepted Strict word is = is
-first_accepted _ word is = is
-
 pub takes_first : {S : Type 0} (p : Inside S) (word : ℕ) → p.phase ≡ Step1 → has_bit word 15 ≡ true
     → has_bit word 14 ≡ false → PortInvariant p
     → PortInvariant (record p {
@@ -67,7 +63,8 @@ pub takes_first : {S : Type 0} (p : Inside S) (word : ℕ) → p.phase ≡ Step1
       interrupts = raised_by_step p.profile (interrupts_asked p.profile p.interrupts word);
     })
 takes_first p word step one two is =
-    steps p Step1 (Step2 word) _ step refl refl (λ _. first_accepted p.profile word (and_from _ _ one (ap not two)))
+    let accepted = and_from (has_bit word 15) _ one (ap not two) in
+    steps p Step1 (Step2 word) _ step refl refl (λ _. in_both p.profile (Step2 word) accepted accepted)
     (λ silent. by_step p.profile (Step2 word) (interrupts_asked p.profile p.interrupts word)
         (by_first_word p.profile word p.interrupts silent)) is
 

@@ -313,15 +313,14 @@ unset_fits : (profile : Profile) (phase : Phase) (guest : Guest) (drive : ℕ) �
     → guest_fits profile phase (attention_set guest drive false) ≡ true
 unset_fits profile phase guest drive is = unset_by (is_guest_running profile phase) guest drive is
 
-after_by : (online : Bool) (profile : Profile) (phase : Phase) (guest : Guest) (drive : ℕ)
-    → guest_fits profile phase guest ≡ true
-    → guest_fits profile phase (if online then attention_set guest drive false else guest) ≡ true
-after_by true profile phase guest drive is = unset_fits profile phase guest drive is
-after_by false profile phase guest drive is = is
-
 pub after_fits : (profile : Profile) (phase : Phase) (e : Reply) (guest : Guest) → guest_fits profile phase guest ≡ true
     → guest_fits profile phase (guest_after e guest) ≡ true
-after_fits profile phase e guest is = after_by (is_online_now e) profile phase guest e.unit is
+after_fits profile phase e guest is =
+    elim (is_online_now e) as (λ online.
+        guest_fits profile phase (if online then attention_set guest e.unit false else guest) ≡ true) [
+      true ↦ unset_fits profile phase guest e.unit is |
+      false ↦ is
+    ]
 
 -- an attached drive
 pub drive_fits : (profile : Profile) (phase : Phase) (guest : Guest) (drive : ℕ) (there : Bool)

@@ -31,9 +31,8 @@ use Rattle.uda_port.proofs.TurnLaws.{attention_first}
 cleared : (xs : List Bool) (n k : ℕ) → one_if (is_due (set xs n false) k) ≤ one_if (is_due xs k)
 cleared [] n k = omega arith
 cleared (x ∷ xs) zero zero = omega arith
-cleared (x ∷ xs) zero (suc k) = omega arith
-cleared (x ∷ xs) (suc n) zero = omega arith
 cleared (x ∷ xs) (suc n) (suc k) = cleared xs n k
+cleared (x ∷ xs) _ _ = omega arith
 
 no_longer : (xs : List Bool) (k : ℕ) → is_due xs k ≡ true → one_if (is_due (set xs k false) k) < one_if (is_due xs k)
 no_longer [] k is = absurd (cc)
@@ -47,15 +46,15 @@ module _ (xs : List Bool) where
   fewer_by : (a b c d : Bool) (drive : ℕ) → is_due xs 0 ≡ a → is_due xs 1 ≡ b → is_due xs 2 ≡ c → is_due xs 3 ≡ d
       → (if a then Some 0 else if b then Some 1 else if c then Some 2 else if d then Some 3 else None) ≡ Some drive
       → due_count (set xs drive false) < due_count xs
-  fewer_by true b c d drive a_is b_is c_is d_is first =
-      let at : drive ≡ 0 = cc in rw at (omega (arith, cleared xs 0, no_longer xs 0 a_is))
-  fewer_by false true c d drive a_is b_is c_is d_is first =
-      let at : drive ≡ 1 = cc in rw at (omega (arith, cleared xs 1, no_longer xs 1 b_is))
-  fewer_by false false true d drive a_is b_is c_is d_is first =
-      let at : drive ≡ 2 = cc in rw at (omega (arith, cleared xs 2, no_longer xs 2 c_is))
-  fewer_by false false false true drive a_is b_is c_is d_is first =
-      let at : drive ≡ 3 = cc in rw at (omega (arith, cleared xs 3, no_longer xs 3 d_is))
-  fewer_by false false false false drive a_is b_is c_is d_is first = absurd (cc)
+  fewer_by true b c d drive is _ _ _ first =
+      let at : drive ≡ 0 = cc in rw at (omega (arith, cleared xs 0, no_longer xs 0 is))
+  fewer_by false true c d drive _ is _ _ first =
+      let at : drive ≡ 1 = cc in rw at (omega (arith, cleared xs 1, no_longer xs 1 is))
+  fewer_by false false true d drive _ _ is _ first =
+      let at : drive ≡ 2 = cc in rw at (omega (arith, cleared xs 2, no_longer xs 2 is))
+  fewer_by false false false true drive _ _ _ is first =
+      let at : drive ≡ 3 = cc in rw at (omega (arith, cleared xs 3, no_longer xs 3 is))
+  fewer_by false false false false drive _ _ _ _ first = absurd (cc)
 
   fewer : (drive : ℕ) → first_due xs ≡ Some drive → due_count (set xs drive false) < due_count xs
   fewer drive first = fewer_by _ _ _ _ drive refl refl refl refl first
@@ -90,7 +89,8 @@ others_left p xs =
     let n = position_or_len p xs in
     omega (arith, length-append (take n xs) (drop (n + 1) xs), length-take n xs, length-drop (n + 1) xs)
 
-at_once : (body : ReplyBody) (r : Reply) (exec : ExecState) → length (exec_for body r exec).pending ≤ length exec.pending
+at_once : (body : ReplyBody) (r : Reply) (exec : ExecState)
+    → length (exec_for body r exec).pending ≤ length exec.pending
 at_once (body.Abort named) r exec = others_left (is_named r.unit named) exec.pending
 at_once _ r exec = omega arith
 
@@ -110,7 +110,8 @@ some_of : {A : Type 0} (o : Option A) → IsSome o → (x : A) × (o ≡ Some x)
 some_of None is = absurd (cc)
 some_of (Some x) is = (x, refl)
 
-module _ (old : PortState) (memory : List ℕ) (new : PortState) (memory_after : List ℕ) (may : MayNotify old memory) where
+module _ (old : PortState) (memory : List ℕ) (new : PortState) (memory_after : List ℕ)
+    (may : MayNotify old memory) where
   running_first : (turn : Turn) → RunningTurn old memory turn new memory_after → goes_before_ends turn ≡ true
   running_first Delivered goes = absurd (cc (may.due, goes.rest.1.none_due))
   running_first Idle goes =
@@ -130,13 +131,8 @@ module _ (old : PortState) (memory : List ℕ) (new : PortState) (memory_after :
       ))
   running_nearer Executed goes =
       let one = goes.rest.1 in
-      omega (
-        arith,
-        ap (λ (p : PortState). p.credits) one.others,
-        executed old.profile goes.rest.0 old.exec memory one.end new.exec memory_after one.executes,
-        ap (λ (p : PortState). due_count p.guest.attentions) one.others,
-        after_end one.end old.guest,
-      )
+      let fewer_left = executed old.profile goes.rest.0 old.exec memory one.end new.exec memory_after one.executes in
+      rw one.others (omega (arith, fewer_left, after_end one.end old.guest))
   running_nearer Notified goes =
       let one = goes.rest.1 in rw one.others (omega (arith, fewer old.guest.attentions one.drive one.due))
   running_nearer Dead goes = tt

@@ -14,10 +14,10 @@ use Rattle.uda_port.specs.declared.profile.Profile.TheVariants.{Strict, Compatib
 use Rattle.uda_port.specs.Interrupt.{raised_by_step, raised, interrupts_asked, noted}
 use Rattle.uda_port.specs.PortInvariant.{PortInvariant, IsPossible}
 use Rattle.uda_port.specs.Port.{PortState, port_after_ip_read}
-use Rattle.uda_port.specs.Possible.{is_of_turn, has_run, has_rings, is_first_word, has_phase, CanDie, is_step_3, is_past_steps, settings_fit, is_strict_phase, is_guest_phase, can_interrupt, rings_fit, addresses_by, guest_fits, queue_fits, HasNoWork}
+use Rattle.uda_port.specs.Possible.{is_of_turn, has_run, has_rings, has_phase, CanDie, is_step_3, is_past_steps, settings_fit, is_strict_phase, is_guest_phase, can_interrupt, rings_fit, addresses_by, guest_fits, queue_fits, HasNoWork}
 use Rattle.uda_port.specs.Ring.{RingState}
 use Rattle.uda_port.specs.Startup.{has_bit, refuses_second, refuses_third, asks_test, after_sa_write}
-use Rattle.uda_port.proofs.PossibleLaws.{same_rings, same_guest, by_death, by_step, by_first_word, by_third_word, by_go, go_rings, go_guest, no_rest, by_indicator, rings_move}
+use Rattle.uda_port.proofs.PossibleLaws.{same_rings, same_guest, by_death, by_step, by_first_word, by_third_word, by_go, go_rings, go_guest, by_indicator, rings_move}
 
 -- both profiles have the phase
 in_both : (profile : Profile) (phase : Phase) → is_strict_phase phase ≡ true → is_guest_phase phase ≡ true
@@ -56,10 +56,6 @@ dies p cause can is =
 
 -- ---- the first word
 
-first_accepted : (profile : Profile) (word : ℕ) → is_first_word word ≡ true → has_phase profile (Step2 word) ≡ true
-first_accepted Strict word is = is
-first_accepted _ word is = is
-
 pub takes_first : {S : Type 0} (p : Inside S) (word : ℕ) → p.phase ≡ Step1 → has_bit word 15 ≡ true
     → has_bit word 14 ≡ false → PortInvariant p
     → PortInvariant (record p {
@@ -67,7 +63,8 @@ pub takes_first : {S : Type 0} (p : Inside S) (word : ℕ) → p.phase ≡ Step1
       interrupts = raised_by_step p.profile (interrupts_asked p.profile p.interrupts word);
     })
 takes_first p word step one two is =
-    steps p Step1 (Step2 word) _ step refl refl (λ _. first_accepted p.profile word (and_from _ _ one (ap not two)))
+    let accepted = and_from (has_bit word 15) _ one (ap not two) in
+    steps p Step1 (Step2 word) _ step refl refl (λ _. in_both p.profile (Step2 word) accepted accepted)
     (λ silent. by_step p.profile (Step2 word) (interrupts_asked p.profile p.interrupts word)
         (by_first_word p.profile word p.interrupts silent)) is
 
@@ -171,15 +168,15 @@ pub record AreSet (profile : Profile) (responses commands : RingState) : Type 0 
 
 pub sets_rings : {S : Type 0} (p : Inside S) (next : Phase) (i : Interrupts) (responses commands : RingState)
     → is_step_3 p.phase ≡ true → AreSet p.profile responses commands
-    → (has_phase p.profile next ≡ true) × ((has_run next ≡ false) × (can_interrupt p.profile next i ≡ true))
+    → has_phase p.profile next ≡ true → has_run next ≡ false → can_interrupt p.profile next i ≡ true
     → rings_fit p.profile next responses commands ≡ true → PortInvariant p
     → PortInvariant (record p { phase = next; interrupts = i; responses = responses; commands = commands })
-sets_rings p next i responses commands step set to fit is =
+sets_rings p next i responses commands step set has rests can fit is =
     let ordered : responses.base ≤ commands.base = omega arith in
     let rested = not_run_in_3 p.phase step in
     assumption (
       ordered,
-      same_guest p.profile p.phase next p.guest (to.1.0 ∙ sym rested) is.possible.guest,
+      same_guest p.profile p.phase next p.guest (rests ∙ sym rested) is.possible.guest,
       λ (_ : has_run next ≡ false). is.possible.no_work rested,
     )
 
@@ -198,14 +195,9 @@ pub enters_step_4 : {S : Type 0} (p : Inside S) (responses commands : RingState)
       commands = commands;
     })
 enters_step_4 p responses commands step set is =
-    sets_rings p Step4 _ responses commands step set (
-      in_both p.profile Step4 refl refl,
-      (
-        refl,
-        by_step p.profile Step4 p.interrupts
-            (third_interrupts p.profile p.phase p.interrupts step is.possible.interrupts),
-      ),
-    )
+    sets_rings p Step4 _ responses commands step set (in_both p.profile Step4 refl refl) refl
+    (by_step p.profile Step4 p.interrupts
+        (third_interrupts p.profile p.phase p.interrupts step is.possible.interrupts))
     (set_fit p.profile responses commands set) is
 
 -- a port that tests is compatible
@@ -218,14 +210,9 @@ pub enters_test : {S : Type 0} (p : Inside S) (responses commands : RingState) (
     → PortInvariant p
     → PortInvariant (record p { phase = PurgeTest; responses = responses; commands = commands })
 enters_test p responses commands word step set asks is =
-    sets_rings p PurgeTest p.interrupts responses commands step set (
-      tests p.profile word asks,
-      (
-        refl,
-        same_interrupts p.profile Step4 PurgeTest p.interrupts refl refl
-            (third_interrupts p.profile p.phase p.interrupts step is.possible.interrupts),
-      ),
-    )
+    sets_rings p PurgeTest p.interrupts responses commands step set (tests p.profile word asks) refl
+    (same_interrupts p.profile Step4 PurgeTest p.interrupts refl refl
+        (third_interrupts p.profile p.phase p.interrupts step is.possible.interrupts))
     (set_fit p.profile responses commands set) is
 
 -- ---- a running port
@@ -239,13 +226,15 @@ pub runs_on : {S : Type 0} {p : Inside S} (indicator : Option ℕ) → PortInvar
 runs_on {p = p} indicator is runs q profile phase notes base count other guest queue = record {
   phase = rw (profile, phase) is.possible.phase;
   interrupts = rw (profile, phase, notes) (by_indicator _ _ indicator _ runs is.possible.interrupts);
-  rings = rw (profile, phase) (rings_move p.profile _ p.responses p.commands q.responses q.commands runs base count other is.possible.rings);
+  rings = rw (profile, phase) (rings_move p.profile _ p.responses p.commands q.responses q.commands runs base count
+      other is.possible.rings);
   guest = rw (profile, phase) guest;
   queue = rw profile queue;
-  no_work = λ rests. absurd (no_rest _ (phase ∙ runs) rests);
+  no_work = λ rests. absurd (cc);
 }
 
-pub polls : {S : Type 0} (p : Inside S) → p.phase ≡ Running → PortInvariant p → PortInvariant (record p { polling = true })
+pub polls : {S : Type 0} (p : Inside S) → p.phase ≡ Running → PortInvariant p
+    → PortInvariant (record p { polling = true })
 polls p runs is = search (runs_on None is runs)
 
 unpolled : {S : Type 0} (p : Inside S) → IsPossible p → has_run p.phase ≡ false
@@ -301,13 +290,16 @@ runs_into profile phase cause runs of_turn fatal = record {
 }
 
 pub reads_no_ring : (profile : Profile) (phase : Phase) → phase ≡ Running → CanDie profile phase RingRead
-reads_no_ring profile phase runs = runs_into profile phase RingRead runs refl (in_both profile (Dead RingRead) refl refl)
+reads_no_ring profile phase runs =
+    runs_into profile phase RingRead runs refl (in_both profile (Dead RingRead) refl refl)
 
 pub reads_no_packet : (profile : Profile) (phase : Phase) → phase ≡ Running → CanDie profile phase PacketRead
-reads_no_packet profile phase runs = runs_into profile phase PacketRead runs refl (in_both profile (Dead PacketRead) refl refl)
+reads_no_packet profile phase runs =
+    runs_into profile phase PacketRead runs refl (in_both profile (Dead PacketRead) refl refl)
 
 pub writes_no_packet : (profile : Profile) (phase : Phase) → phase ≡ Running → CanDie profile phase PacketWrite
-writes_no_packet profile phase runs = runs_into profile phase PacketWrite runs refl (in_both profile (Dead PacketWrite) refl refl)
+writes_no_packet profile phase runs =
+    runs_into profile phase PacketWrite runs refl (in_both profile (Dead PacketWrite) refl refl)
 
 pub exceeds_credits : (profile : Profile) (phase : Phase) → phase ≡ Running → profile ≡ Strict
     → CanDie profile phase CreditsExceeded

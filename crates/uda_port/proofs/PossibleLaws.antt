@@ -1,7 +1,7 @@
 -- What keeps a port's state possible.
-use Rattle.std.proofs.Common.{◌≡◌, ℕ, ◌+◌, ◌*◌, ◌%◌, ◌<◌, ◌≤◌, ◌==◌, zero, suc, Bool, true, false, ◌&&◌, ◌||◌, List, [], ◌∷◌, ◌++◌, refl, sym, ap, ◌∙◌, add-one, arith}
+use Rattle.std.proofs.Common.{◌≡◌, ℕ, ◌+◌, ◌*◌, ◌%◌, ◌<◌, ◌≤◌, ◌==◌, zero, suc, Bool, true, false, ◌&&◌, ◌||◌, List, [], ◌∷◌, ◌++◌, refl, sym, ◌∙◌, add-one, arith}
 use Rattle.std.specs.Prelude.{if◌then◌else◌, not, nat_lt, nat_le, set, drop, get_or, length, Option, Some, None, IfSome, is_some, Result, Ok, Err}
-use Rattle.std.proofs.lemmas.Bool.{and_parts, and_from, or_right, le-leb, leb-true, ltb-true, eqb-true, eq-eqb, true≢false}
+use Rattle.std.proofs.lemmas.Bool.{and_parts, and_from, or_right, le-leb, leb-true, ltb-true, eqb-true, eq-eqb}
 use Rattle.uda_exec.specs.Saved.{same_flag}
 use Rattle.uda_exec.specs.declared.scheduler.Position.{Position}
 use Rattle.uda_exec.specs.Disks.{FIRST_POSITION, ExecState}
@@ -32,31 +32,33 @@ use Rattle.uda_port.specs.declared.phase.Phase.{Phase}
 use Rattle.uda_port.specs.declared.phase.Phase.TheVariants.{Step1, Step2, Step3, Wrap, Step4, Running, Dead}
 use Rattle.uda_port.specs.declared.profile.Profile.{Profile}
 use Rattle.uda_port.specs.declared.profile.Profile.TheVariants.{Strict, Compatible}
-use Rattle.uda_port.specs.Guest.{GUEST_AT_FIRST, guest_restarted, attention_set, guest_after, is_online_now, first_due}
+use Rattle.uda_port.specs.Guest.{guest_restarted, attention_set, guest_after, is_online_now, first_due}
 use Rattle.uda_port.specs.Interrupt.{NO_INTERRUPTS, interrupts_asked, has_vector, raised, raised_by_step, noted, served, vector_of, IsVectorAddress}
-use Rattle.uda_port.specs.Possible.{has_run, has_rings, has_phase, is_vector, are_asked_by, settings_fit, is_past_steps, can_interrupt, is_silent, is_base_by, is_next_to, rings_fit, none_due, is_guest_running, guest_fits, is_basic_body, are_basic, queue_fits, is_first_position}
+use Rattle.uda_port.specs.Possible.{has_run, has_rings, has_phase, is_vector, are_asked_by, settings_fit, is_past_steps, can_interrupt, is_silent, is_base_by, is_next_to, rings_fit, none_due, is_guest_running, guest_fits, is_basic_body, are_basic, queue_fits, HasNoWork, is_first_position}
+use Rattle.uda_port.specs.PortInvariant.{IsPossible}
+use Rattle.uda_port.specs.declared.port.Port.TheInside.{Inside}
 use Rattle.uda_port.specs.Ring.{RingState}
 use Rattle.uda_port.specs.Startup.{has_bit}
 
 -- ---- a new port
 
-pub starts_phase : (profile : Profile) → has_phase profile Step1 ≡ true
-starts_phase Strict = refl
-starts_phase _ = refl
-
-pub starts_interrupts : (profile : Profile) → can_interrupt profile Step1 NO_INTERRUPTS ≡ true
-starts_interrupts Strict = refl
-starts_interrupts _ = refl
-
-pub starts_guest : (profile : Profile) → guest_fits profile Step1 GUEST_AT_FIRST ≡ true
-starts_guest profile = or_right (is_guest_running profile Step1) _ refl
-
-pub restarts_guest : (profile : Profile) (guest : Guest) → guest_fits profile Step1 (guest_restarted guest) ≡ true
-restarts_guest profile guest = or_right (is_guest_running profile Step1) _ refl
-
-pub starts_queue : (profile : Profile) → queue_fits profile [] ≡ true
-starts_queue Strict = refl
-starts_queue _ = refl
+pub starts : {S : Type 0} (guest : Guest) (p : Inside S) → p.phase ≡ Step1 → p.interrupts ≡ NO_INTERRUPTS
+    → p.responses ≡ record { base = 0; count = 1; place = 0 } → p.commands ≡ record { base = 0; count = 1; place = 0 }
+    → p.guest ≡ guest_restarted guest
+    → HasNoWork p.polling p.deliveries p.exec.pending p.waiting.items p.exec.position → IsPossible p
+starts guest p step silent responses commands restarted none = record {
+  phase = rw step (by p.profile).0;
+  interrupts = rw (step, silent) (by p.profile).1;
+  rings = rw (step, responses, commands) refl;
+  guest = rw (step, restarted) (or_right (is_guest_running p.profile Step1) _ refl);
+  queue = rw none.none_waiting (by p.profile).2;
+  no_work = λ _. none;
+}
+  where
+    by : (profile : Profile) → (has_phase profile Step1 ≡ true) × (can_interrupt profile Step1 NO_INTERRUPTS ≡ true)
+        × (queue_fits profile [] ≡ true)
+    by Strict = (refl, refl, refl)
+    by _ = (refl, refl, refl)
 
 -- ---- interrupts
 
@@ -119,7 +121,8 @@ silent_vector i is =
 
 asked_vector : (first : ℕ) (i : Interrupts) → are_asked_by first i ≡ true → is_vector i.vector ≡ true
 asked_vector first i is =
-    let four : i.vector ≡ 4 * (first % 0x80) = eqb-true _ _ (and_parts (same_flag i.enabled (has_bit first 7)) _ is).1 in
+    let four : i.vector ≡ 4 * (first % 0x80) = eqb-true _ _
+    (and_parts (same_flag i.enabled (has_bit first 7)) _ is).1 in
     and_from (i.vector % 4 == 0) (nat_le i.vector 0x1FC) (eq-eqb _ _ (omega arith)) (le-leb _ _ (omega arith))
 
 has_vector_form : (phase : Phase) (i : Interrupts) → settings_fit phase i ≡ true → is_vector i.vector ≡ true
@@ -194,7 +197,7 @@ requested_address : (profile : Profile) (phase : Phase) (i : Interrupts) → can
     → i.requested ≡ true → IsVectorAddress i.vector
 requested_address Strict phase i is requested =
     let none = (and_parts (i.vector == 0) _ (and_parts (not i.enabled) _ is).1).1 in
-    absurd (true≢false (sym none ∙ ap not requested))
+    absurd (cc)
 requested_address _ phase i is requested =
     let parts = and_parts (settings_fit phase i) _ is in
     is_address i.vector (has_vector_form phase i parts.0)
@@ -292,16 +295,14 @@ first_position p is =
 
 -- ---- a running port
 
-pub no_rest : (phase : Phase) → phase ≡ Running → has_run phase ≡ false → ⊥
-no_rest phase runs is = true≢false (sym (ap has_run runs) ∙ is)
-
 pub flags_fit : (profile : Profile) (phase : Phase) (p : Fetched) (m : Result GuestCommand Reply) (guest : Guest)
     → phase ≡ Running → guest_fits profile phase guest ≡ true
     → guest_fits profile phase (flags_kept profile p m guest) ≡ true
 flags_fit Strict phase p m guest runs is = is
 flags_fit _ phase p m guest runs is = rw runs refl
 
-unset_by : (runs : Bool) (guest : Guest) (drive : ℕ) → (runs || ((guest.flags == 0) && none_due guest.attentions)) ≡ true
+unset_by : (runs : Bool) (guest : Guest) (drive : ℕ)
+    → (runs || ((guest.flags == 0) && none_due guest.attentions)) ≡ true
     → (runs || ((guest.flags == 0) && none_due (set guest.attentions drive false))) ≡ true
 unset_by true guest drive is = refl
 unset_by _ guest drive is =
@@ -312,15 +313,14 @@ unset_fits : (profile : Profile) (phase : Phase) (guest : Guest) (drive : ℕ) �
     → guest_fits profile phase (attention_set guest drive false) ≡ true
 unset_fits profile phase guest drive is = unset_by (is_guest_running profile phase) guest drive is
 
-after_by : (online : Bool) (profile : Profile) (phase : Phase) (guest : Guest) (drive : ℕ)
-    → guest_fits profile phase guest ≡ true
-    → guest_fits profile phase (if online then attention_set guest drive false else guest) ≡ true
-after_by true profile phase guest drive is = unset_fits profile phase guest drive is
-after_by false profile phase guest drive is = is
-
 pub after_fits : (profile : Profile) (phase : Phase) (e : Reply) (guest : Guest) → guest_fits profile phase guest ≡ true
     → guest_fits profile phase (guest_after e guest) ≡ true
-after_fits profile phase e guest is = after_by (is_online_now e) profile phase guest e.unit is
+after_fits profile phase e guest is =
+    elim (is_online_now e) as (λ online.
+        guest_fits profile phase (if online then attention_set guest e.unit false else guest) ≡ true) [
+      true ↦ unset_fits profile phase guest e.unit is |
+      false ↦ is
+    ]
 
 -- an attached drive
 pub drive_fits : (profile : Profile) (phase : Phase) (guest : Guest) (drive : ℕ) (there : Bool)

@@ -8,7 +8,7 @@ use Rattle.uda_port.specs.declared.phase.Phase.TheVariants.{Step1, Step2, Step3,
 use Rattle.uda_port.specs.declared.phase.Fatal.TheVariants.{RingWrite, InitializationError}
 use Rattle.uda_port.specs.declared.profile.Profile.TheVariants.{Strict, Compatible}
 use Rattle.uda_port.specs.declared.play.HostEvent.TheVariants.{WriteIp, ReadIp, WriteSa, Word, Turn as TurnEvent}
-use Rattle.uda_port.specs.Port.{PortState, port_in_phase, port_after_ip_read}
+use Rattle.uda_port.specs.Port.{PortState, port_in_phase}
 use Rattle.uda_port.specs.Startup.{has_bit, area_of, has_area, refuses_second, refuses_third, after_sa_write, failed_port, after_wrap_request}
 use Rattle.uda_port.specs.Plan.{Step, counted, stopped_polling, Rests, CommandRingLost, Unreadable, Exceeds, BadConnection, Fetches, Executes, DeliversEnd, Notifies, Waits, ResponseRingLost, NoRoom}
 use Rattle.uda_port.specs.Message.{message_in}
@@ -108,17 +108,12 @@ module _ (cause : Fatal) (turn : Turn) (s : Step) (dead : s.new.phase ≡ Dead c
 
 -- ---- an event, and events
 
--- a port that is dead after a read of IP was dead
-asked_dead : (cause : Fatal) (old : PortState) → (port_after_ip_read old.phase old).phase ≡ Dead cause
-    → old.phase ≡ Dead cause
-asked_dead cause old dead = grind arith
-
 module _ (cause : Fatal) (old new : PortState) (memory memory_after : List ℕ) where
   -- A port that is dead after an event met a cause in it, or was dead before and the event isn't a write to IP.
   fatal_event : (event : HostEvent) → EventEffect event old memory new memory_after → new.phase ≡ Dead cause
       → ((event ≢ WriteIp) × (old.phase ≡ Dead cause)) ⊎ MeetsCause cause event old memory
   fatal_event WriteIp goes dead = absurd (cc (phases goes.0))
-  fatal_event ReadIp goes dead = inl ((λ is. cc), asked_dead cause old (rw goes.0 at dead))
+  fatal_event ReadIp goes dead = inl ((λ is. cc), grind arith)
   fatal_event (WriteSa word) goes dead =
       elim (fatal_word cause word old new memory dead old.phase refl goes)
       [ | inl was ↦ inl ((λ is. cc), was) | inr met ↦ inr met ]

@@ -8,8 +8,8 @@ use Rattle.uda_port.specs.declared.phase.Phase.TheVariants.{Step1, Step2, Step3,
 use Rattle.uda_port.specs.declared.phase.Fatal.TheVariants.{RingWrite, InitializationError}
 use Rattle.uda_port.specs.declared.profile.Profile.TheVariants.{Strict, Compatible}
 use Rattle.uda_port.specs.declared.play.HostEvent.TheVariants.{WriteIp, ReadIp, WriteSa, Word, Turn as TurnEvent}
-use Rattle.uda_port.specs.Port.{PortState, port_in_phase, port_after_ip_read}
-use Rattle.uda_port.specs.Startup.{has_bit, area_of, has_area, refuses_second, refuses_third, after_third, after_sa_write, failed_port, port_with_rings, after_wrap_request}
+use Rattle.uda_port.specs.Port.{PortState, port_in_phase}
+use Rattle.uda_port.specs.Startup.{has_bit, area_of, has_area, refuses_second, refuses_third, after_sa_write, failed_port, after_wrap_request}
 use Rattle.uda_port.specs.Plan.{Step, counted, stopped_polling, Rests, CommandRingLost, Unreadable, Exceeds, BadConnection, Fetches, Executes, DeliversEnd, Notifies, Waits, ResponseRingLost, NoRoom}
 use Rattle.uda_port.specs.Message.{message_in}
 use Rattle.uda_port.proofs.PlanLaws.{AnyCase, case_of, message_keeps, step_of}
@@ -23,10 +23,6 @@ first : {a b : PortState × List ℕ} → a ≡ b → a.0 ≡ b.0
 first is = ap (λ (x : PortState × List ℕ). x.0) is
 
 -- ---- a word of initialization
-
--- the phase after the third word isn't dead
-lives_on : (cause : Fatal) (old : PortState) (word : ℕ) → (after_third old word).phase ≡ Dead cause → ⊥
-lives_on cause old word is = grind arith
 
 module _ (cause : Fatal) (word : ℕ) (old new : PortState) (memory : List ℕ) (dead : new.phase ≡ Dead cause) where
   abbrev IsFatal : Type 0
@@ -70,8 +66,7 @@ module _ (cause : Fatal) (word : ℕ) (old new : PortState) (memory : List ℕ) 
   fatal_word Step1 p is = inr (first_word _ _ old.profile _ p refl refl refl (first is) refl)
   fatal_word (Step2 one) p is = inr (second_word old.profile _ p refl refl (first is))
   fatal_word (Step3 one two) p is =
-      inr (third_word old.profile _ _ _ p refl refl refl is
-      (lives_on cause (port_with_rings old (area_of old.profile one two word)) word))
+      inr (third_word old.profile _ _ _ p refl refl refl is (λ d. grind arith))
   fatal_word (Wrap before) p is = absurd (cc (phases (first is)))
   fatal_word PurgeTest p is = absurd (grind arith)
   fatal_word Step4 p is = absurd (grind arith)
@@ -113,17 +108,12 @@ module _ (cause : Fatal) (turn : Turn) (s : Step) (dead : s.new.phase ≡ Dead c
 
 -- ---- an event, and events
 
--- a port that is dead after a read of IP was dead
-asked_dead : (cause : Fatal) (old : PortState) → (port_after_ip_read old.phase old).phase ≡ Dead cause
-    → old.phase ≡ Dead cause
-asked_dead cause old dead = grind arith
-
 module _ (cause : Fatal) (old new : PortState) (memory memory_after : List ℕ) where
   -- A port that is dead after an event met a cause in it, or was dead before and the event isn't a write to IP.
   fatal_event : (event : HostEvent) → EventEffect event old memory new memory_after → new.phase ≡ Dead cause
       → ((event ≢ WriteIp) × (old.phase ≡ Dead cause)) ⊎ MeetsCause cause event old memory
   fatal_event WriteIp goes dead = absurd (cc (phases goes.0))
-  fatal_event ReadIp goes dead = inl ((λ is. cc), asked_dead cause old (rw goes.0 at dead))
+  fatal_event ReadIp goes dead = inl ((λ is. cc), grind arith)
   fatal_event (WriteSa word) goes dead =
       elim (fatal_word cause word old new memory dead old.phase refl goes)
       [ | inl was ↦ inl ((λ is. cc), was) | inr met ↦ inr met ]

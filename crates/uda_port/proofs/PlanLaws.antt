@@ -185,9 +185,6 @@ pub data Outcome (Is : ℕ → Type 0) (turn : Turn) (s : Step) : Type 0 where
   Other : is_execution (plan_of s.old s.memory) ≡ false → is_executed turn ≡ false → units_of s.new ≡ units_of s.old
       → Outcome Is turn s
 
-never_rest : (phase : Phase) → is_executed (rest_turn phase) ≡ false
-never_rest phase = grind arith
-
 module _ (Is : ℕ → Type 0) (turn : Turn) (s : Step) where
   -- another plan, and the turn that it leads to
   other : {p : Plan} {wanted : Turn} → plan_of s.old s.memory ≡ p → turn ≡ wanted → is_execution p ≡ false
@@ -203,7 +200,7 @@ module _ (Is : ℕ → Type 0) (turn : Turn) (s : Step) where
 
   pub outcome : TurnCase Is turn s → Outcome Is turn s
   outcome (Rests rests answer same) =
-      other (plan_rests s.old s.memory rests) answer refl (never_rest s.old.phase) (rw same.state)
+      other (plan_rests s.old s.memory rests) answer refl (grind arith) (rw same.state)
   outcome (CommandRingLost d line same) =
       other (plan_outside s.old s.memory d.runs line.looks line.no_descriptor) d.answer refl refl (rw same.state)
   outcome (Unreadable d line same) =

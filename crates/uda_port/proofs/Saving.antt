@@ -1,5 +1,5 @@
 -- Ports that differ only in their counts have the same future.
-use Rattle.std.proofs.Common.{◌≡◌, ℕ, ◌+◌, ◌<◌, ◌≤◌, ◌↔◌, Bool, true, false, ◌||◌, List, [], ◌∷◌, length, Result, refl, sym, ap, ◌∙◌, arith}
+use Rattle.std.proofs.Common.{◌≡◌, ℕ, ◌+◌, ◌<◌, ◌≤◌, ◌↔◌, Bool, true, false, ◌||◌, List, [], ◌∷◌, length, Result, refl, ap, ◌∙◌, arith}
 use Rattle.std.specs.Prelude.{not, nat_lt, IsTrue}
 use Rattle.uda_packet.specs.declared.{guest_command.GuestOp.GuestOp, reply.Reply.Reply, guest_command.GuestCommand.GuestCommand}
 use Rattle.std.proofs.lemmas.Bool.{eq-eqb, and_parts, ltb_from_iff}
@@ -7,9 +7,9 @@ use Rattle.std.proofs.lemmas.{Bool.Decides.nat_tests, List.nil_from_length}
 use Rattle.uda_exec.specs.{Disks.ExecState, Saved.saved_exec, declared.saved.SavedExec.SavedExec}
 use Rattle.uda_exec.proofs.Saving.{restored_is_saved as exec_is_saved}
 use Rattle.uda_port.specs.declared.{phase.Phase.Phase, profile.Profile.Profile, profile.Profile.TheVariants.Strict, packet.Fetched.Fetched as Packet, port.Port.TheInside.Inside, saved.Saved.Saved, turn.Turn.Turn, play.HostEvent.HostEvent}
-use Rattle.uda_port.specs.{PortInvariant.PortInvariant, Ring.RingState, Message.message_in, Startup.after_sa_write}
+use Rattle.uda_port.specs.{PortInvariant.PortInvariant, Ring.RingState, Message.message_in}
 use Rattle.uda_port.specs.declared.play.HostEvent.TheVariants.{WriteIp, ReadIp, WriteSa, Word, Turn as TurnEvent}
-use Rattle.uda_port.specs.Port.{PortState, next_grant, credits_granted, port_restarted, port_after_ip_read}
+use Rattle.uda_port.specs.Port.{PortState, next_grant, credits_granted, port_restarted}
 use Rattle.uda_port.specs.Turn.{Unchanged, port_with_message, TakesPacket, TurnEffect}
 use Rattle.uda_port.specs.Plan.{Step, counted, Rests, CommandRingLost, Unreadable, Exceeds, BadConnection, Fetches, Executes, DeliversEnd, Notifies, Waits, ResponseRingLost, NoRoom}
 use Rattle.uda_port.specs.Events.{EventEffect, EventsEffect}
@@ -226,31 +226,14 @@ module _ (k : Counts) (turn : Turn) (s : Step) (begun : nat_lt 0 k.deliveries �
   turns_also (NoRoom d reaches line same) =
       leaves once same.state begun (NoRoom (assumption) (assumption) (search line) (with once same))
 
--- ---- a word of initialization
+-- ---- events
 
 -- a port and its memory, with other counts
 abbrev both : Counts → PortState × List ℕ → PortState × List ℕ
 both k x = (with_counts k x.0, x.1)
 
-words_same : (k : Counts) (old : PortState) (p : Phase) (memory : List ℕ) (word : ℕ)
-    → after_sa_write p (with_counts k old) memory word ≡ both k (after_sa_write p old memory word)
-words_same k old p memory word = grind arith
-
-ip_read_same : (k : Counts) (old : PortState) (p : Phase)
-    → port_after_ip_read p (with_counts k old) ≡ with_counts k (port_after_ip_read p old)
-ip_read_same k old p = grind arith
-
 abbrev counts_of : PortState → Counts
 counts_of p = record { turns = p.turns; fetches = p.fetches; deliveries = p.deliveries; load = p.load }
-
-word_deliveries : (p : Phase) (old : PortState) (memory : List ℕ) (word : ℕ)
-    → (after_sa_write p old memory word).0.deliveries ≡ old.deliveries
-word_deliveries p old memory word = grind arith
-
-ip_read_deliveries : (p : Phase) (old : PortState) → (port_after_ip_read p old).deliveries ≡ old.deliveries
-ip_read_deliveries p old = grind arith
-
--- ---- events
 
 module _ (k : Counts) (old : PortState) (begun : nat_lt 0 k.deliveries ≡ nat_lt 0 old.deliveries)
     (memory : List ℕ) (new : PortState) (memory_after : List ℕ) where
@@ -263,13 +246,13 @@ module _ (k : Counts) (old : PortState) (begun : nat_lt 0 k.deliveries ≡ nat_l
   }
   event ReadIp effect = record {
     counts = k;
-    leads = (rw (effect.0, ip_read_same k old old.phase), effect.1);
-    begun = rw (effect.0, ip_read_deliveries old.phase old) begun;
+    leads = (rw effect.0 (grind arith), effect.1);
+    begun = rw effect.0 (grind arith);
   }
   event (WriteSa word) effect = record {
     counts = k;
-    leads = ap (both k) effect ∙ sym (words_same k old old.phase memory word);
-    begun = rw (ap (λ (x : PortState × List ℕ). x.0) effect, word_deliveries old.phase old memory word) begun;
+    leads = ap (both k) effect ∙ grind arith;
+    begun = rw (ap (λ (x : PortState × List ℕ). x.0) effect) (grind arith);
   }
   event (Word address word) effect = record {
     counts = k;

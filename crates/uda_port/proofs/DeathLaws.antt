@@ -3,7 +3,11 @@ use Rattle.std.proofs.Common.{◌≡◌, ◌≢◌, ℕ, ◌⊎◌, inl, inr, Bo
 use Rattle.std.specs.Prelude.{if◌then◌else◌}
 use Rattle.std.proofs.lemmas.List.Elements.{All-nil, All-cons, All-head, All-tail}
 use borrow.Author.Tests.{ltb-true, ltb-false}
-use Rattle.uda_port.specs.declared.{phase.Phase.Phase, phase.Fatal.Fatal, profile.Profile.Profile, turn.Turn.Turn, play.HostEvent.HostEvent}
+use Rattle.uda_port.specs.declared.phase.Phase.{Phase}
+use Rattle.uda_port.specs.declared.phase.Fatal.{Fatal}
+use Rattle.uda_port.specs.declared.profile.Profile.{Profile}
+use Rattle.uda_port.specs.declared.turn.Turn.{Turn}
+use Rattle.uda_port.specs.declared.play.HostEvent.{HostEvent}
 use Rattle.uda_port.specs.declared.phase.Phase.TheVariants.{Step1, Step2, Step3, Wrap, PurgeTest, Step4, Running, Dead}
 use Rattle.uda_port.specs.declared.phase.Fatal.TheVariants.{RingWrite, InitializationError}
 use Rattle.uda_port.specs.declared.profile.Profile.TheVariants.{Strict, Compatible}
@@ -116,12 +120,12 @@ module _ (cause : Fatal) (old new : PortState) (memory memory_after : List ℕ) 
   fatal_event ReadIp goes dead = inl ((λ is. cc), grind arith)
   fatal_event (WriteSa word) goes dead =
       elim (fatal_word cause word old new memory dead old.phase refl goes)
-      [ | inl was ↦ inl ((λ is. cc), was) | inr met ↦ inr met ]
+      [ inl was ↦ inl ((λ is. cc), was) | inr met ↦ inr met ]
   fatal_event (Word address word) goes dead = inl ((λ is. cc), rw goes.0 at dead)
   fatal_event TurnEvent goes dead =
       let s = step_of (old, memory) (new, memory_after) in
       elim (fatal_turn cause goes.0 s dead (case_of goes.0 s goes.1))
-      [ | inl was ↦ inl ((λ is. cc), was) | inr met ↦ inr met ]
+      [ inl was ↦ inl ((λ is. cc), was) | inr met ↦ inr met ]
 
   -- a dead port remains dead until IP is written
   dead_event : (event : HostEvent) → EventEffect event old memory new memory_after → event ≢ WriteIp

@@ -1,11 +1,26 @@
 -- A turn is one of the cases of its plan.
 use Rattle.std.proofs.Common.{◌≡◌, ℕ, ◌<◌, Bool, true, false, List, [], ◌∷◌, length, Option, Some, None, Result, refl, sym, ap, subst, ◌∙◌, arith}
 use Rattle.std.specs.Prelude.{option_map}
-use Rattle.std.proofs.lemmas.{Bool.cond_both, Option.slice_get_within}
-use Rattle.uda_packet.specs.declared.{command.Command.Command, guest_command.GuestCommand.GuestCommand, reply.Reply.Reply}
+use Rattle.std.proofs.lemmas.Bool.{cond_both}
+use Rattle.std.proofs.lemmas.Option.{slice_get_within}
+use Rattle.uda_packet.specs.declared.command.Command.{Command}
+use Rattle.uda_packet.specs.declared.guest_command.GuestCommand.{GuestCommand}
+use Rattle.uda_packet.specs.declared.reply.Reply.{Reply}
 use Rattle.uda_disk.specs.Units.{Units}
-use Rattle.uda_port.specs.{MemoryUse.TurnsAt, Message.message_in, Events.Delivers, Port.PortState, Report.next_text, Fetch.IsNext, Startup.failed_port}
-use Rattle.uda_port.specs.declared.{descriptor.Descriptor.Descriptor, phase.Fatal.Fatal, phase.Phase.Phase, phase.Phase.TheVariants.Running, turn.Turn.Turn, plan.Plan.Plan, profile.Profile.Profile}
+use Rattle.uda_port.specs.MemoryUse.{TurnsAt}
+use Rattle.uda_port.specs.Message.{message_in}
+use Rattle.uda_port.specs.Events.{Delivers}
+use Rattle.uda_port.specs.Port.{PortState}
+use Rattle.uda_port.specs.Report.{next_text}
+use Rattle.uda_port.specs.Fetch.{IsNext}
+use Rattle.uda_port.specs.Startup.{failed_port}
+use Rattle.uda_port.specs.declared.descriptor.Descriptor.{Descriptor}
+use Rattle.uda_port.specs.declared.phase.Fatal.{Fatal}
+use Rattle.uda_port.specs.declared.phase.Phase.{Phase}
+use Rattle.uda_port.specs.declared.phase.Phase.TheVariants.{Running}
+use Rattle.uda_port.specs.declared.turn.Turn.{Turn}
+use Rattle.uda_port.specs.declared.plan.Plan.{Plan}
+use Rattle.uda_port.specs.declared.profile.Profile.{Profile}
 use Rattle.uda_port.specs.declared.phase.Fatal.TheVariants as fatal
 use Rattle.uda_port.specs.declared.turn.Turn.TheVariants as did
 use Rattle.uda_port.specs.declared.plan.Plan.TheVariants.{AtRest, NoCommandRing, ToFetch, ToExecute, NoMessage, ToWait, NoResponseRing, ToDeliver}
@@ -237,7 +252,7 @@ module _ (Is : ℕ → Type 0) (turn : Turn) (s : Step) where
 
   -- a turn that is to execute a command does
   pub executed_case : TurnCase Is turn s → plan_of s.old s.memory ≡ ToExecute → turn ≡ did.Executed
-  executed_case c plan = elim (outcome c) [ | Executing to is j at x ↦ is | Other none never units ↦ cc ]
+  executed_case c plan = elim (outcome c) [ Executing to is j at x ↦ is | Other none never units ↦ cc ]
 
 -- ---- a turn that executes the command at an index, if it executes one
 

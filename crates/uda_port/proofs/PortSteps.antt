@@ -66,7 +66,7 @@ takes_first p word step one two is =
     let accepted = and_from (has_bit word 15) _ one (ap not two) in
     steps p Step1 (Step2 word) _ step refl refl (λ _. in_both p.profile (Step2 word) accepted accepted)
     (λ silent. by_step p.profile (Step2 word) (interrupts_asked p.profile p.interrupts word)
-        (by_first_word p.profile word p.interrupts silent)) is
+    (by_first_word p.profile word p.interrupts silent)) is
 
 -- wrap mode, which only a compatible port has
 has_wrap : (profile : Profile) (word : ℕ) (identity : Identity) → profile ≡ Compatible identity
@@ -106,7 +106,7 @@ takes_second p first word step taken is =
     steps p (Step2 first) (Step3 first word) _ step refl refl
     (λ was. second_accepted p.profile first word was taken)
     (λ asked. by_step p.profile (Step3 first word) p.interrupts
-        (same_interrupts p.profile (Step2 first) (Step3 first word) p.interrupts refl refl asked)) is
+    (same_interrupts p.profile (Step2 first) (Step3 first word) p.interrupts refl refl asked)) is
 
 -- ---- the tests
 
@@ -125,7 +125,7 @@ pub passes_poll : {S : Type 0} (p : Inside S) → p.phase ≡ PollTest → PortI
 passes_poll p step is =
     steps p PollTest Step4 _ step refl refl (λ _. in_both p.profile Step4 refl refl)
     (λ may. by_step p.profile Step4 p.interrupts
-        (same_interrupts p.profile PollTest Step4 p.interrupts refl refl may)) is
+    (same_interrupts p.profile PollTest Step4 p.interrupts refl refl may)) is
 
 -- ---- before the third word a strict port can die of a feature that it doesn't have, and any port of its rings
 
@@ -197,7 +197,7 @@ pub enters_step_4 : {S : Type 0} (p : Inside S) (responses commands : RingState)
 enters_step_4 p responses commands step set is =
     sets_rings p Step4 _ responses commands step set (in_both p.profile Step4 refl refl) refl
     (by_step p.profile Step4 p.interrupts
-        (third_interrupts p.profile p.phase p.interrupts step is.possible.interrupts))
+    (third_interrupts p.profile p.phase p.interrupts step is.possible.interrupts))
     (set_fit p.profile responses commands set) is
 
 -- a port that tests is compatible
@@ -212,7 +212,7 @@ pub enters_test : {S : Type 0} (p : Inside S) (responses commands : RingState) (
 enters_test p responses commands word step set asks is =
     sets_rings p PurgeTest p.interrupts responses commands step set (tests p.profile word asks) refl
     (same_interrupts p.profile Step4 PurgeTest p.interrupts refl refl
-        (third_interrupts p.profile p.phase p.interrupts step is.possible.interrupts))
+    (third_interrupts p.profile p.phase p.interrupts step is.possible.interrupts))
     (set_fit p.profile responses commands set) is
 
 -- ---- a running port

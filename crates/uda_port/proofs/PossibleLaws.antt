@@ -317,9 +317,9 @@ pub after_fits : (profile : Profile) (phase : Phase) (e : Reply) (guest : Guest)
     → guest_fits profile phase (guest_after e guest) ≡ true
 after_fits profile phase e guest is =
     elim (is_online_now e) as (λ online.
-        guest_fits profile phase (if online then attention_set guest e.unit false else guest) ≡ true) [
-      true ↦ unset_fits profile phase guest e.unit is |
-      false ↦ is
+    guest_fits profile phase (if online then attention_set guest e.unit false else guest) ≡ true) [
+      | true ↦ unset_fits profile phase guest e.unit is
+      | false ↦ is
     ]
 
 -- an attached drive

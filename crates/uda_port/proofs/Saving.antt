@@ -1,13 +1,27 @@
 -- Ports that differ only in their counts have the same future.
 use Rattle.std.proofs.Common.{◌≡◌, ℕ, ◌+◌, ◌<◌, ◌≤◌, ◌↔◌, Bool, true, false, ◌||◌, List, [], ◌∷◌, length, Result, refl, ap, ◌∙◌, arith}
 use Rattle.std.specs.Prelude.{not, nat_lt, IsTrue}
-use Rattle.uda_packet.specs.declared.{guest_command.GuestOp.GuestOp, reply.Reply.Reply, guest_command.GuestCommand.GuestCommand}
+use Rattle.uda_packet.specs.declared.guest_command.GuestOp.{GuestOp}
+use Rattle.uda_packet.specs.declared.reply.Reply.{Reply}
+use Rattle.uda_packet.specs.declared.guest_command.GuestCommand.{GuestCommand}
 use Rattle.std.proofs.lemmas.Bool.{eq-eqb, and_parts, ltb_from_iff}
-use Rattle.std.proofs.lemmas.{Bool.Decides.nat_tests, List.nil_from_length}
-use Rattle.uda_exec.specs.{Disks.ExecState, Saved.saved_exec, declared.saved.SavedExec.SavedExec}
+use Rattle.std.proofs.lemmas.Bool.Decides.{nat_tests}
+use Rattle.std.proofs.lemmas.List.{nil_from_length}
+use Rattle.uda_exec.specs.Disks.{ExecState}
+use Rattle.uda_exec.specs.Saved.{saved_exec}
+use Rattle.uda_exec.specs.declared.saved.SavedExec.{SavedExec}
 use Rattle.uda_exec.proofs.Saving.{restored_is_saved as exec_is_saved}
-use Rattle.uda_port.specs.declared.{phase.Phase.Phase, profile.Profile.Profile, profile.Profile.TheVariants.Strict, packet.Fetched.Fetched as Packet, port.Port.TheInside.Inside, saved.Saved.Saved, turn.Turn.Turn, play.HostEvent.HostEvent}
-use Rattle.uda_port.specs.{PortInvariant.PortInvariant, Ring.RingState, Message.message_in}
+use Rattle.uda_port.specs.declared.phase.Phase.{Phase}
+use Rattle.uda_port.specs.declared.profile.Profile.{Profile}
+use Rattle.uda_port.specs.declared.profile.Profile.TheVariants.{Strict}
+use Rattle.uda_port.specs.declared.packet.Fetched.{Fetched as Packet}
+use Rattle.uda_port.specs.declared.port.Port.TheInside.{Inside}
+use Rattle.uda_port.specs.declared.saved.Saved.{Saved}
+use Rattle.uda_port.specs.declared.turn.Turn.{Turn}
+use Rattle.uda_port.specs.declared.play.HostEvent.{HostEvent}
+use Rattle.uda_port.specs.PortInvariant.{PortInvariant}
+use Rattle.uda_port.specs.Ring.{RingState}
+use Rattle.uda_port.specs.Message.{message_in}
 use Rattle.uda_port.specs.declared.play.HostEvent.TheVariants.{WriteIp, ReadIp, WriteSa, Word, Turn as TurnEvent}
 use Rattle.uda_port.specs.Port.{PortState, next_grant, credits_granted, port_restarted}
 use Rattle.uda_port.specs.Turn.{Unchanged, port_with_message, TakesPacket, TurnEffect}

@@ -49,7 +49,7 @@ install: programs
 
 library: $(built)/libuda50.a $(built)/$(shared)
 
-$(built)/libuda50.a: $$(shell tools/unproved sources uda_c) $(what_builds) c/uda50_blocks.c c/uda50_bus.c c/uda50_file.c $(headers)
+$(built)/libuda50.a: $$(shell tools/unproved sources uda_c) $(what_builds) c/uda50_file.c c/uda50_machine.c $(headers)
 	tools/unproved library $@
 
 test check:

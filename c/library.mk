@@ -4,7 +4,7 @@
 PREFIX ?= /usr/local
 DESTDIR ?=
 
-headers := $(addprefix $(top)/include/,uda50.h uda50_blocks.h uda50_bus.h uda50_file.h)
+headers := $(addprefix $(top)/include/,uda50.h uda50_file.h uda50_machine.h uda50_steps.h)
 version := $(shell sed -n 's/^.define UDA50_VERSION_[A-Z]* \([0-9]*\)$$/\1/p' $(top)/include/uda50.h | paste -sd.)
 soname := libuda50.so.$(firstword $(subst ., ,$(version)))
 shared := libuda50.so.$(version)

@@ -1,7 +1,7 @@
 /* attention.c: a guest that always has a command under way gets its attention messages all the same, within 34 turns that
    each find a free response descriptor. It takes its turns over one array, by calls, or over mapped memory. */
 #include "guest.h"
-#include "uda50_bus.h"
+#include "uda50_machine.h"
 
 enum { ATTENTION = 0x40, ASKS_ATTENTION = 0x800000, CREDITS = 15, MOST_TURNS = 34, MOMENTS = 100, LIMIT = 10000 };
 enum { PAGES = SIZE / BLOCK };
@@ -15,9 +15,22 @@ static uint32_t response, place, outstanding, reads, messages;
 /* A bus whose addresses lead to the same ones of memory. */
 static uint32_t registers[PAGES];
 static const uda50_map map = { .registers = registers, .count = PAGES, .page = 9, .frame = SIZE - 1 };
-static uda50_mapped mapped = { memory, SIZE, &map };
 static uint8_t window[SIZE];
-static const uda50_bus bus = { uda50_mapped_read, uda50_mapped_write, &mapped, window, SIZE };
+
+static bool read_bytes(void *context, uint32_t at, uint32_t bytes, uint8_t *to)
+{
+    (void)context;
+    return uda50_read_mapped(memory, SIZE, &map, at, to, bytes) == UDA50_OK;
+}
+
+static void write_bytes(void *context, uint32_t at, uint32_t bytes, const uint8_t *from)
+{
+    (void)context;
+    EXPECT(uda50_write_mapped(memory, SIZE, &map, at, from, bytes), UDA50_OK);
+}
+
+static const uda50_machine by_calls = { .size = sizeof(uda50_machine), .read = read_bytes, .write = write_bytes,
+                                        .window = window, .addresses = SIZE };
 
 static uint32_t turn_of_array(void)
 {
@@ -26,7 +39,7 @@ static uint32_t turn_of_array(void)
 
 static uint32_t turn_by_calls(void)
 {
-    return uda50_bus_turn(&uda, &bus);
+    return uda50_machine_turn(&uda, &by_calls);
 }
 
 static uint32_t turn_of_mapped(void)

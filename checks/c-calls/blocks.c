@@ -11,7 +11,8 @@ static uint8_t memory[MEMORY];
 
 #define HAS_MEMORY
 #include "guest.h"
-#include "uda50_blocks.h"
+#include "uda50_machine.h"
+#include "uda50_steps.h"
 
 #include <stdlib.h>
 
@@ -30,8 +31,7 @@ typedef struct machine {
     uint8_t disks[UDA50_UNITS][LARGEST * BLOCK], physical[PHYSICAL], window[MEMORY];
     uint32_t registers[PAGES];
     uda50_map map;
-    uda50_mapped mapped;
-    uda50_bus bus;
+    uda50_machine reached; /* as the way says, with the functions of the called images */
     int way;
 } machine;
 
@@ -106,11 +106,10 @@ static uint32_t write_blocks(void *context, uint32_t lbn, uint32_t count, const 
     return moved.failed ? can : count + any(2) * any(UINT32_MAX - PIECE);
 }
 
-static const uda50_called images[UDA50_UNITS] = {
-    { read_blocks, write_blocks, called.disks[0] },
-    { read_blocks, write_blocks, called.disks[1] },
-    { read_blocks, NULL, called.disks[2] },
-    { NULL, NULL, NULL },
+static const uda50_called images[3] = {
+    { sizeof(uda50_called), called.disks[0], read_blocks, write_blocks },
+    { sizeof(uda50_called), called.disks[1], read_blocks, write_blocks },
+    { sizeof(uda50_called), called.disks[2], read_blocks, NULL },
 };
 
 /* ---- The bus, page by page ---- */
@@ -167,14 +166,20 @@ static void see(void)
 static void reach(machine *it, int way)
 {
     it->map = (uda50_map){ .registers = it->registers, .count = PAGES, .page = 9, .frame = ~VALID, .valid = VALID, .scale = 9 };
-    it->mapped = (uda50_mapped){ it->physical, PHYSICAL, &it->map };
     it->way = way;
     if (way == ARRAY)
-        it->bus = (uda50_bus){ NULL, NULL, NULL, it->physical, MEMORY };
+        it->reached = (uda50_machine){ .memory = it->physical, .length = MEMORY };
     else if (way == CALLS)
-        it->bus = (uda50_bus){ read_bytes, write_bytes, it, it->window, MEMORY };
+        it->reached = (uda50_machine){ .context = it, .read = read_bytes, .write = write_bytes };
     else
-        it->bus = (uda50_bus){ uda50_mapped_read, uda50_mapped_write, &it->mapped, it->window, MEMORY };
+        it->reached = (uda50_machine){ .memory = it->physical, .length = PHYSICAL, .map = &it->map };
+    it->reached.size = sizeof it->reached;
+    if (way != ARRAY) {
+        it->reached.window = it->window;
+        it->reached.addresses = MEMORY;
+    }
+    for (uint32_t unit = 0; it == &called && unit < 3; unit++)
+        it->reached.images[unit] = &images[unit];
     for (uint32_t n = 0; n < PAGES; n++)
         it->registers[n] = VALID | n;
 }
@@ -225,7 +230,7 @@ static void free_machine(machine *it)
 static void write_sa(machine *it, uint16_t word)
 {
     if (it == &called || it->way == CALLS)
-        uda50_bus_write_sa(&it->uda, word, &it->bus);
+        EXPECT(uda50_machine_write_sa(&it->uda, word, &it->reached), UDA50_OK);
     else if (it->way == ARRAY)
         uda50_write_sa(&it->uda, word, it->physical, MEMORY);
     else
@@ -235,7 +240,7 @@ static void write_sa(machine *it, uint16_t word)
 static uint32_t plain_turn(machine *it)
 {
     return it->way == ARRAY   ? uda50_turn(&it->uda, it->physical, MEMORY)
-           : it->way == CALLS ? uda50_bus_turn(&it->uda, &it->bus)
+           : it->way == CALLS ? uda50_machine_turn(&it->uda, &it->reached)
                               : uda50_turn_mapped(&it->uda, it->physical, PHYSICAL, &it->map);
 }
 
@@ -283,7 +288,7 @@ static uint32_t called_turn(void)
     memset(&moved, 0, sizeof moved);
     if (called.way != ARRAY)
         memset(called.window, (int)any(256), MEMORY);
-    result = uda50_blocks_turn(&called.uda, &called.bus, images);
+    result = uda50_machine_turn(&called.uda, &called.reached);
     expect_told(result);
     return result;
 }
@@ -623,7 +628,7 @@ static void lent_in_pieces(void)
     EXPECT(bytes_after(DRIVE_ERROR), 6 * BLOCK);
     EXPECT(memcmp(memory + BUFFER, bytes, 6 * BLOCK), 0);
     EXPECT(memcmp(memory + BUFFER + 6 * BLOCK, bytes + 6 * BLOCK, BLOCK) != 0, true);
-    make_pending(READ, BLOCK); /* lent and then forgotten by the emulator: uda50_blocks_turn begins again */
+    make_pending(READ, BLOCK); /* lent and then forgotten by the emulator: uda50_machine_turn begins again */
     EXPECT(are(ask(&use), UDA50_READS, 1), true);
     EXPECT(uda50_lend_blocks(&called.uda, 0, 5, bytes, BLOCK), UDA50_OK);
     EXPECT(called_turn(), UDA50_EXECUTED);
@@ -670,15 +675,15 @@ static void ended_runs(void)
 {
     begin(CALLS);
     reads = 0;
-    EXPECT(uda50_blocks_run(&called.uda, 1000, &called.bus, images), UDA50_IDLE);
+    EXPECT(uda50_machine_run(&called.uda, 1000, &called.reached), UDA50_IDLE);
     EXPECT(reads <= 5, true);
     post(posted % COMMANDS, (command){ GET_UNIT_STATUS, 0, 1, 0, 0 });
     give_response(posted++ % RESPONSES);
     show();
     uda50_read_ip(&called.uda);
-    EXPECT(uda50_blocks_run(&called.uda, 1, &called.bus, images), UDA50_FETCHED);
-    EXPECT(uda50_blocks_run(&called.uda, 2, &called.bus, images), UDA50_DELIVERED);
-    EXPECT(uda50_blocks_run(&called.uda, 2, &called.bus, images), UDA50_IDLE);
+    EXPECT(uda50_machine_run(&called.uda, 1, &called.reached), UDA50_FETCHED);
+    EXPECT(uda50_machine_run(&called.uda, 2, &called.reached), UDA50_DELIVERED);
+    EXPECT(uda50_machine_run(&called.uda, 2, &called.reached), UDA50_IDLE);
 }
 
 /* A run goes on after an attention message. */
@@ -699,10 +704,10 @@ static void run_after_attention(void)
     }
     EXPECT(uda50_get_state(&called.uda, &state), UDA50_OK);
     EXPECT(state.attentions, 0xe);
-    EXPECT(uda50_blocks_run(&called.uda, 2, &called.bus, images), UDA50_NOTIFIED);
+    EXPECT(uda50_machine_run(&called.uda, 2, &called.reached), UDA50_NOTIFIED);
     EXPECT(uda50_get_state(&called.uda, &state), UDA50_OK);
     EXPECT(state.attentions, 8);
-    EXPECT(uda50_blocks_run(&called.uda, TURNS, &called.bus, images), UDA50_IDLE);
+    EXPECT(uda50_machine_run(&called.uda, TURNS, &called.reached), UDA50_IDLE);
     EXPECT(uda50_get_state(&called.uda, &state), UDA50_OK);
     EXPECT(state.attentions, 0);
 }
@@ -749,12 +754,13 @@ static void statuses_of_turns(void)
     static uda50 none;
     uda50 *uda = &called.uda;
     uda50_blocks blocks = { 9, 9, 9, 9 }, before = blocks;
-    uda50_bus odd = called.bus, large = called.bus, other = called.bus;
+    uda50_machine odd, large;
     uda50_turn_use use;
 
+    begin(ARRAY);
+    odd = large = called.reached;
     odd.length--;
     large.length = (4 << 20) + 2;
-    begin(ARRAY);
     make_pending(WRITE, BLOCK);
     EXPECT(are(ask(&use), UDA50_WRITES, 1), true);
     EXPECT(uda50_get_blocks(&none, called.physical, 1, &use, &blocks), UDA50_NO_CONTROLLER);
@@ -762,17 +768,113 @@ static void statuses_of_turns(void)
     EXPECT(memcmp(&blocks, &before, sizeof blocks), 0);
     EXPECT(uda50_get_written(&none, called.physical, 1, &use, 0, bytes, BLOCK), UDA50_NO_CONTROLLER);
     EXPECT(uda50_get_written(uda, called.physical, MEMORY - 1, &use, 0, bytes, BLOCK), UDA50_BAD_LENGTH);
-    EXPECT(uda50_blocks_turn(&none, &other, images), UDA50_NO_CONTROLLER);
-    EXPECT(uda50_blocks_turn(uda, &odd, images), UDA50_BAD_LENGTH);
-    EXPECT(uda50_blocks_turn(uda, &large, images), UDA50_TOO_LARGE);
-    EXPECT(uda50_blocks_run(&none, 0, &other, images), UDA50_NO_CONTROLLER);
-    EXPECT(uda50_blocks_run(uda, 1, &odd, images), UDA50_BAD_LENGTH);
-    EXPECT(uda50_blocks_run(uda, 0, &large, images), UDA50_TOO_LARGE);
-    EXPECT(uda50_blocks_run(uda, 0, &called.bus, images), UDA50_IDLE);
+    EXPECT(uda50_machine_turn(&none, &odd), UDA50_NO_CONTROLLER);
+    EXPECT(uda50_machine_turn(uda, &odd), UDA50_BAD_LENGTH);
+    EXPECT(uda50_machine_turn(uda, &large), UDA50_TOO_LARGE);
+    EXPECT(uda50_machine_run(&none, 0, &odd), UDA50_NO_CONTROLLER);
+    EXPECT(uda50_machine_run(uda, 1, &odd), UDA50_BAD_LENGTH);
+    EXPECT(uda50_machine_run(uda, 0, &large), UDA50_TOO_LARGE);
+    EXPECT(uda50_machine_run(uda, 0, &called.reached), UDA50_IDLE);
     memset(&moved, 0, sizeof moved);
-    EXPECT(uda50_blocks_run(uda, 1, &called.bus, images), UDA50_EXECUTED);
+    EXPECT(uda50_machine_run(uda, 1, &called.reached), UDA50_EXECUTED);
     EXPECT(moved.end - moved.first, 1);
-    EXPECT(uda50_blocks_run(uda, TURNS, &called.bus, images), UDA50_IDLE);
+    EXPECT(uda50_machine_run(uda, TURNS, &called.reached), UDA50_IDLE);
+}
+
+/* What a call over this machine returns, and that nothing has changed. */
+static void refused(const uda50_machine *reached, uint32_t turn, uint32_t write_sa)
+{
+    static uint8_t before[UDA50_STATE_LENGTH], after[UDA50_STATE_LENGTH], bytes[PHYSICAL];
+
+    memset(&moved, 0, sizeof moved);
+    memcpy(bytes, called.physical, PHYSICAL);
+    EXPECT(uda50_save(&called.uda, before, sizeof before), UDA50_OK);
+    EXPECT(uda50_machine_turn(&called.uda, reached), turn);
+    EXPECT(uda50_machine_run(&called.uda, TURNS, reached), turn);
+    EXPECT(uda50_machine_write_sa(&called.uda, 1, reached), write_sa);
+    EXPECT(uda50_save(&called.uda, after, sizeof after), UDA50_OK);
+    EXPECT(memcmp(before, after, sizeof before), 0);
+    EXPECT(memcmp(bytes, called.physical, PHYSICAL), 0);
+    EXPECT(moved.calls, 0);
+}
+
+/* Machines without what a turn needs: memory, a window that is long enough, valid map registers, or a function of a
+   called image. A running port ignores a word for SA. */
+static void refused_machines(void)
+{
+    static uda50_called partial;
+    static uda50 none;
+    uda50_machine it;
+    uda50_map map;
+
+    for (int way = 0; way < WAYS; way++) {
+        begin(way);
+        make_pending(way == CALLS ? READ : WRITE, BLOCK);
+        it = called.reached;
+        it.size--;
+        refused(&it, UDA50_BAD_MACHINE, UDA50_BAD_MACHINE);
+        it = called.reached;
+        it.memory = NULL;
+        it.write = NULL;
+        refused(&it, UDA50_BAD_MACHINE, UDA50_BAD_MACHINE);
+        EXPECT(uda50_machine_turn(&none, &it), UDA50_BAD_MACHINE);
+        it = called.reached;
+        it.images[0] = NULL;
+        refused(&it, UDA50_NO_FUNCTIONS, UDA50_OK);
+        partial = images[0];
+        partial.size--;
+        it.images[0] = &partial;
+        refused(&it, UDA50_NO_FUNCTIONS, UDA50_OK);
+        partial = images[0];
+        partial.read = way == CALLS ? NULL : partial.read;
+        partial.write = way == CALLS ? partial.write : NULL;
+        refused(&it, UDA50_NO_FUNCTIONS, UDA50_OK);
+        it = called.reached;
+        it.window = NULL;
+        if (way != ARRAY)
+            refused(&it, UDA50_NO_WINDOW, way == CALLS ? UDA50_NO_WINDOW : UDA50_OK);
+        it = called.reached;
+        it.addresses = MEMORY - 2;
+        if (way == MAPPED)
+            refused(&it, UDA50_NO_WINDOW, UDA50_OK);
+        it.addresses = MEMORY - 1;
+        if (way == CALLS)
+            refused(&it, UDA50_BAD_LENGTH, UDA50_OK);
+        map = called.map;
+        map.page = 32;
+        it = called.reached;
+        it.map = &map;
+        if (way == MAPPED)
+            refused(&it, UDA50_BAD_MAP, UDA50_BAD_MAP);
+        EXPECT(called_turn(), UDA50_EXECUTED);
+        EXPECT(moved.end - moved.first, 1);
+        EXPECT(uda50_machine_run(&called.uda, TURNS, &called.reached), UDA50_IDLE);
+    }
+}
+
+/* A window that is longer than the bus has addresses, and images in memory that need none. */
+static void any_window(void)
+{
+    static uint8_t window[2 * MEMORY];
+    uda50_machine it;
+
+    begin(MAPPED);
+    make_pending(READ, 3 * BLOCK);
+    it = called.reached;
+    it.window = window;
+    it.addresses = sizeof window;
+    memset(window, 0x99, sizeof window);
+    memset(&moved, 0, sizeof moved);
+    EXPECT(uda50_machine_turn(&called.uda, &it), UDA50_EXECUTED);
+    EXPECT(moved.end - moved.first, 3);
+    EXPECT(uda50_machine_run(&called.uda, TURNS, &called.reached), UDA50_IDLE);
+    see();
+    EXPECT(memcmp(memory + BUFFER, called.disks[0] + 5 * BLOCK, 3 * BLOCK), 0);
+    for (uint32_t n = MEMORY; n < sizeof window; n++)
+        EXPECT(window[n], 0x99);
+    reach(&held, MAPPED);
+    held.reached.window = NULL;
+    EXPECT(uda50_machine_run(&held.uda, TURNS, &held.reached) < UDA50_NO_CONTROLLER, true);
 }
 
 /* ---- Memory ---- */
@@ -794,7 +896,7 @@ static void missing_memory(void)
 
         allocations = 0;
         memset(&moved, 0, sizeof moved);
-        result = uda50_blocks_turn(&called.uda, &called.bus, images);
+        result = uda50_machine_turn(&called.uda, &called.reached);
         EXPECT(uda50_save(&called.uda, after, sizeof after), UDA50_OK);
         if (result != UDA50_NO_MEMORY)
             break;
@@ -826,12 +928,13 @@ static uint32_t write_nothing(void *context, uint32_t lbn, uint32_t count, const
 /* The largest Access and Erase of the largest image. */
 static void large_commands(void)
 {
-    static const uda50_called nothing[UDA50_UNITS] = { { NULL, NULL, NULL }, { read_nothing, write_nothing, NULL } };
+    static const uda50_called nothing = { sizeof nothing, NULL, read_nothing, write_nothing };
     static const uint8_t opcodes[] = { ONLINE, ACCESS, ERASE };
 
     detach(&called, 1);
     EXPECT(uda50_attach_called(&called.uda, 1, UDA50_MAX_BLOCKS, false), UDA50_OK);
     start_machine(&called, ARRAY);
+    called.reached.images[1] = &nothing;
     see();
     posted = 0;
     for (uint32_t n = 0; n < sizeof opcodes; n++) {
@@ -842,7 +945,7 @@ static void large_commands(void)
         show();
         uda50_read_ip(&called.uda);
         allocations = blocks_moved = 0;
-        EXPECT(uda50_blocks_run(&called.uda, TURNS, &called.bus, nothing), UDA50_IDLE);
+        EXPECT(uda50_machine_run(&called.uda, TURNS, &called.reached), UDA50_IDLE);
         see();
         EXPECT(get16(response_at(n) + 10), 0);
         EXPECT(bytes_told(), n == 0 ? bytes_told() : bytes);
@@ -894,13 +997,7 @@ static void copies(void)
         whole = copy(&called, (uda50_range){ at, bytes }, one, NULL);
         EXPECT(uda50_read_mapped(called.physical, PHYSICAL, &called.map, at, two, bytes), whole ? UDA50_OK : UDA50_NOWHERE);
         EXPECT(memcmp(one, two, MEMORY), 0);
-        memset(two, 0xee, MEMORY);
-        EXPECT(uda50_mapped_read(&called.mapped, at, bytes, two), whole);
-        EXPECT(memcmp(one, two, MEMORY), 0);
-        if (any(2))
-            EXPECT(uda50_write_mapped(called.physical, PHYSICAL, &called.map, at, memory, bytes), UDA50_OK);
-        else
-            uda50_mapped_write(&called.mapped, at, bytes, memory);
+        EXPECT(uda50_write_mapped(called.physical, PHYSICAL, &called.map, at, memory, bytes), UDA50_OK);
         write_bytes(&held, at, bytes, memory);
         EXPECT(memcmp(called.physical, held.physical, PHYSICAL), 0);
     }
@@ -925,10 +1022,6 @@ static void refused_copies(void)
         EXPECT(uda50_read_mapped(called.physical, PHYSICAL, &map, 0, two, 4), wanted);
         EXPECT(uda50_write_mapped(called.physical, PHYSICAL, &map, 0, memory, 4), wanted);
         EXPECT(memcmp(one, two, MEMORY), 0);
-        called.mapped.map = &map;
-        EXPECT(uda50_mapped_read(&called.mapped, 0, 4, two), false);
-        EXPECT(two[0] == 0 && two[3] == 0, true);
-        uda50_mapped_write(&called.mapped, 0, 4, memory);
         EXPECT(memcmp(called.physical, held.physical, PHYSICAL), 0);
     }
     map = called.map;
@@ -1084,6 +1177,8 @@ int main(int count, char **arguments)
     told_bytes();
     statuses_of_images();
     statuses_of_turns();
+    refused_machines();
+    any_window();
     ended_runs();
     run_after_attention();
     missing_memory();

@@ -2,9 +2,9 @@
 // functions.h has a line FUNCTION(name) for each. Then it runs a controller over a file of eight blocks. It prints how
 // many functions there are.
 // Usage: linked FILE
-#include "uda50_blocks.h"
-#include "uda50_bus.h"
 #include "uda50_file.h"
+#include "uda50_machine.h"
+#include "uda50_steps.h"
 
 #include <cstdio>
 

@@ -1,10 +1,11 @@
 /* maps.c: turns over mapped memory. First what a hole does, by what it hits; transfers of 0 bytes; registers that lead
    to one page, or lie in memory; and the end of memory. Then random guests. Over a map without holes a controller does what
-   it does over one array. Over any map uda50_turn_mapped does what uda50_bus_turn does by calls that go byte by byte,
-   whatever is in the window of those.
+   it does over one array. Over any map uda50_turn_mapped does what uda50_machine_turn does by calls that go byte by
+   byte, whatever is in the window of those.
    Usage: maps [MAPS [EVENTS]] */
 #include "guest.h"
-#include "uda50_bus.h"
+#include "uda50_machine.h"
+#include "uda50_steps.h"
 
 #include <stdlib.h>
 
@@ -14,14 +15,14 @@ enum { ACCESS = 16, ERASE = 18, COMPARE = 32 };
 
 static const uint32_t VALID = 0x80000000;
 
-/* A controller with an image, and its guest's mapped memory. The bus has calls that go byte by byte. */
+/* A controller with an image, and its guest's mapped memory. It is also reached by calls that go byte by byte. */
 typedef struct {
     uda50 uda;
     uint8_t disk[DISK], physical[PHYSICAL], window[SIZE];
     uint32_t registers[PAGES];
     uda50_map map;
     size_t length; /* of memory */
-    uda50_bus bus;
+    uda50_machine calls;
     bool by_calls;
 } machine;
 
@@ -95,7 +96,8 @@ static void make(machine *it, bool by_calls)
     it->map = (uda50_map){ .registers = it->registers, .count = PAGES, .page = PAGE_BITS, .frame = FRAME, .valid = VALID,
                            .scale = SCALE };
     it->length = PHYSICAL;
-    it->bus = (uda50_bus){ read_bytes, write_bytes, it, it->window, SIZE };
+    it->calls = (uda50_machine){ .size = sizeof it->calls, .context = it, .read = read_bytes, .write = write_bytes,
+                                 .window = it->window, .addresses = SIZE };
     it->by_calls = by_calls;
 }
 
@@ -103,13 +105,13 @@ static void make(machine *it, bool by_calls)
 static uint32_t turn(machine *it)
 {
     memset(it->window, (int)any(256), SIZE);
-    return it->by_calls ? uda50_bus_turn(&it->uda, &it->bus)
+    return it->by_calls ? uda50_machine_turn(&it->uda, &it->calls)
                         : uda50_turn_mapped(&it->uda, it->physical, it->length, &it->map);
 }
 
 static uint32_t run_turns(machine *it, uint32_t turns)
 {
-    return it->by_calls ? uda50_bus_run(&it->uda, turns, &it->bus)
+    return it->by_calls ? uda50_machine_run(&it->uda, turns, &it->calls)
                         : uda50_run_mapped(&it->uda, turns, it->physical, it->length, &it->map);
 }
 
@@ -121,7 +123,7 @@ static uint32_t run(machine *it)
 static void write_sa(machine *it, uint16_t word)
 {
     if (it->by_calls)
-        uda50_bus_write_sa(&it->uda, word, &it->bus);
+        EXPECT(uda50_machine_write_sa(&it->uda, word, &it->calls), UDA50_OK);
     else
         EXPECT(uda50_write_sa_mapped(&it->uda, word, it->physical, it->length, &it->map), UDA50_OK);
 }
@@ -748,7 +750,7 @@ static void by_pages_and_bytes(uint32_t events)
     other.length = mapped.length;
     other.map = mapped.map;
     other.map.registers = other.registers;
-    other.bus.length = other.map.count * BLOCK;
+    other.calls.addresses = other.map.count * BLOCK;
     start_up(&mapped);
     start_up(&other);
     for (uint32_t n = 0; n < events && failures == 0; n++) {

@@ -2,6 +2,7 @@
    emulator: its memory, its bus, and a processor that executes the stages below. */
 #define _POSIX_C_SOURCE 200809L
 #include "uda50_file.h"
+#include "uda50_machine.h"
 
 #include <stdlib.h>
 #include <unistd.h>
@@ -21,6 +22,7 @@ bool restore(uda50 *uda, uda50_file *file, const uint8_t state[UDA50_STATE_LENGT
 bool attach(uda50 *uda, uint32_t unit, uda50_file *file, const char *path);
 bool detach(uda50 *uda, uint32_t unit, uda50_file *file);
 uint32_t take_turns_of_11_70(uda50 *uda), take_turns_by_calls(uda50 *uda), take_turns_over_overlay(uda50 *uda);
+uint32_t take_turns_of_vax(uda50 *uda);
 bool attach_overlay(uda50 *uda);
 bool read_base(uint32_t lbn, uint8_t *to), read_second(uint32_t lbn, uint8_t *to);
 bool write_second(uint32_t lbn, const uint8_t *from);
@@ -303,8 +305,8 @@ bool write_second(uint32_t lbn, const uint8_t *from)
     return lbn != BAD_TO_WRITE;
 }
 
-/* Executes a command of the overlay's guest, a few turns at a time. Returns the status, and stores the byte count. */
-static uint32_t over_overlay(uda50 *uda, command c, uint32_t *bytes)
+/* Executes a command of a guest, a few turns at a time. Returns the status, and stores the byte count. */
+static uint32_t executed(uint32_t (*take_turns)(uda50 *), uda50 *uda, command c, uint32_t *bytes)
 {
     uint32_t n = c.reference % RESPONSES, result = UDA50_FETCHED;
 
@@ -312,7 +314,7 @@ static uint32_t over_overlay(uda50 *uda, command c, uint32_t *bytes)
     post(c.reference % COMMANDS, c);
     uda50_read_ip(uda);
     for (int turns = 0; turns < 10 && result != UDA50_IDLE; turns++)
-        result = take_turns_over_overlay(uda);
+        result = take_turns(uda);
     EXPECT(result, UDA50_IDLE);
     *bytes = get16(response_at(n) + 12);
     return get16(response_at(n) + 10);
@@ -329,17 +331,80 @@ static void play_overlay(void)
     EXPECT(uda50_new(&uda, true), UDA50_OK);
     EXPECT(attach_overlay(&uda), true);
     start(&uda);
-    EXPECT(over_overlay(&uda, (command){ ONLINE, 0, 0, 0, 0 }, &bytes), 0);
+    EXPECT(executed(take_turns_over_overlay, &uda, (command){ ONLINE, 0, 0, 0, 0 }, &bytes), 0);
     memset(memory + BUFFER, 'w', 8 * BLOCK);
-    EXPECT(over_overlay(&uda, (command){ WRITE, 0, 1, 4 * BLOCK, 3 }, &bytes), DRIVE_ERROR);
+    EXPECT(executed(take_turns_over_overlay, &uda, (command){ WRITE, 0, 1, 4 * BLOCK, 3 }, &bytes), DRIVE_ERROR);
     EXPECT(bytes, 2 * BLOCK);
-    EXPECT(over_overlay(&uda, (command){ READ, 0, 2, 5 * BLOCK, 2 }, &bytes), DRIVE_ERROR);
+    EXPECT(executed(take_turns_over_overlay, &uda, (command){ READ, 0, 2, 5 * BLOCK, 2 }, &bytes), DRIVE_ERROR);
     EXPECT(bytes, 4 * BLOCK);
     for (uint32_t n = 0; n < 5 * BLOCK; n++)
         EXPECT(memory[BUFFER + n], n / BLOCK == 0 || n / BLOCK == 3 ? 'b' : 'w');
-    EXPECT(over_overlay(&uda, (command){ READ, 0, 3, BLOCK, 7 }, &bytes), 0);
+    EXPECT(executed(take_turns_over_overlay, &uda, (command){ READ, 0, 3, BLOCK, 7 }, &bytes), 0);
     EXPECT(memory[BUFFER], 'b');
     EXPECT(base[3 * BLOCK] == 'b' && base[5 * BLOCK] == 'b', true);
+    EXPECT(uda50_free(&uda, images), UDA50_OK);
+}
+
+/* ---- A VAX ---- */
+
+enum { VAX_PAGES = 8192, GUEST = 2 << 20, MAP = 8 << 20 }; /* where its guest's memory and its registers are */
+uint8_t vax_memory[16 << 20];
+const uda50_map vax_map = { .page = 9, .frame = 0xfffff, .valid = 0x80000000, .scale = 9, .at = MAP, .in_memory = VAX_PAGES };
+
+static uint32_t read_file(void *context, uint32_t lbn, uint32_t count, uint8_t *to)
+{
+    memset(to, *(const char *)context + (int)lbn, count * BLOCK);
+    return count;
+}
+
+static uint32_t write_file(void *context, uint32_t lbn, uint32_t count, const uint8_t *from)
+{
+    (void)context, (void)lbn, (void)from;
+    return count - 1; /* the last block fails */
+}
+
+static char names[UDA50_UNITS + 1] = "0123";
+const uda50_called files[UDA50_UNITS] = {
+    { sizeof(uda50_called), &names[0], read_file, write_file },
+    { sizeof(uda50_called), &names[1], read_file, write_file },
+    { sizeof(uda50_called), &names[2], read_file, write_file },
+    { sizeof(uda50_called), &names[3], read_file, write_file },
+};
+
+static uint32_t turns_of_vax(uda50 *uda)
+{
+    uint32_t result;
+
+    memcpy(vax_memory + GUEST, memory, MEMORY);
+    result = take_turns_of_vax(uda);
+    memcpy(memory, vax_memory + GUEST, MEMORY);
+    return result;
+}
+
+static void play_vax(void)
+{
+    enum { DRIVE_ERROR = 0x0b };
+    uda50_image images[UDA50_UNITS] = { { NULL, 0 } };
+    uda50 uda = { NULL };
+    uint32_t bytes, reference = 0;
+
+    for (uint32_t n = 0; n < VAX_PAGES; n++) {
+        uint32_t found = 0x80000000 | (GUEST / BLOCK + n);
+
+        for (uint32_t i = 0; i < 4; i++)
+            vax_memory[MAP + 4 * n + i] = (uint8_t)(found >> 8 * i);
+    }
+    EXPECT(uda50_new_as(&uda, UDA50_QBUS, 0), UDA50_OK);
+    for (uint32_t unit = 0; unit < UDA50_UNITS; unit++)
+        EXPECT(uda50_attach_called(&uda, unit, 8, false), UDA50_OK);
+    start(&uda);
+    for (uint16_t unit = 0; unit < UDA50_UNITS; unit++) {
+        EXPECT(executed(turns_of_vax, &uda, (command){ ONLINE, unit, reference++, 0, 0 }, &bytes), 0);
+        EXPECT(executed(turns_of_vax, &uda, (command){ READ, unit, reference++, BLOCK, 5 }, &bytes), 0);
+        EXPECT(memory[BUFFER], (uint8_t)(names[unit] + 5));
+        EXPECT(executed(turns_of_vax, &uda, (command){ WRITE, unit, reference++, 3 * BLOCK, 1 }, &bytes), DRIVE_ERROR);
+        EXPECT(bytes, 2 * BLOCK);
+    }
     EXPECT(uda50_free(&uda, images), UDA50_OK);
 }
 
@@ -393,6 +458,7 @@ int main(void)
     save_and_restore();
     reach_memory();
     play_overlay();
+    play_vax();
     fclose(stderr);
     expect_errors();
     return ended();

@@ -1,7 +1,7 @@
 /* host.c: a disk that is an overlay. A block is read from a base file, which stays as it is, until the guest writes it.
    Then it is in a second file. That has a bit for each block after its blocks, and so it keeps them for the next run.
    Usage: host BASE OVERLAY; it prints what a guest's commands end with. */
-#include "uda50_blocks.h"
+#include "uda50_machine.h"
 #include <stdio.h>
 #include <string.h>
 enum { BLOCK = 512, BLOCKS = 8, SIZE = 32768, RINGS = 0x1000, RESPONSE = 0x2004, COMMAND = RINGS + 12, BUFFER = 0x4000 };
@@ -47,13 +47,13 @@ static uint32_t write_blocks(void *context, uint32_t lbn, uint32_t count, const 
 
 static void post(const char *name, uint8_t opcode, uint8_t lbn)
 {
-    static const uda50_called images[UDA50_UNITS] = {{read_blocks, write_blocks, bits}};
-    static const uda50_bus bus = {NULL, NULL, NULL, memory, SIZE}; /* memory is one array */
+    static const uda50_called image = {sizeof image, bits, read_blocks, write_blocks};
+    static const uda50_machine machine = {.size = sizeof machine, .memory = memory, .length = SIZE, .images = {&image}};
     const uint8_t posted[60] = {RESPONSE & 255, RESPONSE >> 8, 0, 0x80, COMMAND & 255, COMMAND >> 8, 0, 0x80, /* the rings */
                                 48, [20] = opcode, [25] = BLOCK >> 8, [29] = BUFFER >> 8, [40] = lbn};
     memcpy(memory + RINGS, posted, sizeof posted);
     uda50_read_ip(&uda);
-    uda50_blocks_run(&uda, 100, &bus, images);
+    uda50_machine_run(&uda, 100, &machine);
     printf("%s %u: status %02x, the buffer begins \"%.7s\"\n", name, lbn, memory[RESPONSE + 10], (char *)memory + BUFFER);
 }
 

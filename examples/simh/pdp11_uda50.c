@@ -15,8 +15,8 @@
 #else
 #include "pdp11_defs.h"
 #endif
-#include "uda50_blocks.h"
 #include "uda50_file.h"
+#include "uda50_machine.h"
 
 #include <errno.h>
 #include <sys/file.h>
@@ -266,43 +266,36 @@ static bool is_called(UNIT *unit)
     return (unit->flags & (UNIT_ATT | UNIT_MMAP)) == UNIT_ATT;
 }
 
-static bool has_calls(controller *it)
-{
-    for (int n = 0; n < UNITS; n++)
-        if (is_called(it->device->units + n))
-            return true;
-    return false;
-}
-
-/* Turns of a controller with files that are read and written by calls. All controllers use the window, one after the other. */
-static uint32 run_with_calls(controller *it, uint32 turns, const uda50_map *map)
+/* The guest's memory and a controller's files. All controllers use the window, one after the other. */
+static uda50_machine machine_of(controller *it, uda50_map *map)
 {
     static uint8 window[WINDOW];
-    uda50_mapped mapped = {(uint8 *)M, memory_bytes(), map};
-    uda50_bus by_map = {uda50_mapped_read, uda50_mapped_write, &mapped, window, WINDOW};
-    uda50_bus whole = {NULL, NULL, NULL, (uint8 *)M, memory_bytes()};
+    uda50_machine machine = {.size = sizeof machine, .memory = (uint8 *)M, .length = memory_bytes()};
 
-    return uda50_blocks_run(&it->uda, turns, map == NULL ? &whole : &by_map, it->images);
+    if (find_map(map))
+        machine.map = map;
+    machine.window = window;
+    machine.addresses = WINDOW;
+    for (int n = 0; n < UNITS; n++)
+        if (is_called(it->device->units + n))
+            machine.images[n] = &it->images[n];
+    return machine;
 }
 
 static uint32 run(controller *it, uint32 turns)
 {
     uda50_map map;
-    bool is_mapped = find_map(&map);
+    uda50_machine machine = machine_of(it, &map);
 
-    if (has_calls(it))
-        return run_with_calls(it, turns, is_mapped ? &map : NULL);
-    return is_mapped ? uda50_run_mapped(&it->uda, turns, (uint8 *)M, memory_bytes(), &map)
-                     : uda50_run(&it->uda, turns, (uint8 *)M, memory_bytes());
+    return uda50_machine_run(&it->uda, turns, &machine);
 }
 
 static void write_sa(controller *it, uint16 word)
 {
     uda50_map map;
+    uda50_machine machine = machine_of(it, &map);
 
-    if (!find_map(&map))
-        uda50_write_sa(&it->uda, word, (uint8 *)M, memory_bytes());
-    else if (uda50_write_sa_mapped(&it->uda, word, (uint8 *)M, memory_bytes(), &map) != UDA50_OK)
+    if (uda50_machine_write_sa(&it->uda, word, &machine) != UDA50_OK)
         printf("RQ: no memory for the window of the bus\n");
 }
 
@@ -631,7 +624,7 @@ static bool call_file(UNIT *unit)
         return false;
     }
     setvbuf(unit->fileref, NULL, _IONBF, 0);
-    of_unit(unit)->images[number_of(unit)] = (uda50_called){read_blocks, write_blocks, unit};
+    of_unit(unit)->images[number_of(unit)] = (uda50_called){sizeof(uda50_called), unit, read_blocks, write_blocks};
     return true;
 }
 

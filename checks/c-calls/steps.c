@@ -1,10 +1,11 @@
-/* halves.c: what may happen between the two halves of a turn by calls, and what may not. A reset leaves the second half
-   nothing to do. Blocks of the dropped command that are made ready too late count for the next one. A store of the guest
-   into the buffer of a Read that then fails is lost. Two controllers use one window one after the other. If c/uda50_bus.c
-   is compiled with UDA50_DEBUG, a window that changes within a turn is an assertion that fails. */
+/* steps.c: what may happen between the steps of a turn, and what may not. A reset leaves the last step nothing to do. Blocks
+   of the dropped command that are made ready too late count for the next one. A store of the guest into the buffer of a
+   Read that then fails is lost. Two controllers use one window one after the other. If c/uda50_machine.c is compiled with
+   UDA50_DEBUG, a window that changes within a turn of a machine is an assertion that fails. */
 #define _DEFAULT_SOURCE
 #include "guest.h"
-#include "uda50_bus.h"
+#include "uda50_machine.h"
+#include "uda50_steps.h"
 
 #include <signal.h>
 #include <stdio.h>
@@ -18,20 +19,39 @@ enum { BLOCKS = 8, DRIVE_ERROR = 0x0b };
 static uda50 uda, other;
 static uint8_t window[SIZE], state[UDA50_STATE_LENGTH];
 
-static bool read_bytes(void *context, uint32_t address, uint32_t bytes, uint8_t *to)
+static void copy(uint8_t *to, const uint8_t *from, uda50_range range)
 {
-    (void)context;
-    memcpy(to, memory + address, bytes);
-    return true;
+    memcpy(to + range.at, from + range.at, range.bytes);
 }
 
-static void write_bytes(void *context, uint32_t address, uint32_t bytes, const uint8_t *from)
+/* The steps before the one that takes the turn. Each address leads somewhere. */
+static uint32_t begin_turn(uda50 *it, uda50_turn_use *turn)
 {
-    (void)context;
-    memcpy(memory + address, from, bytes);
+    memset(turn, 0, sizeof *turn);
+    EXPECT(uda50_get_descriptors(it, window, SIZE, turn), UDA50_OK);
+    for (int n = 0; n < 4; n++)
+        copy(window, memory, turn->descriptors[n]);
+    EXPECT(uda50_get_body(it, window, SIZE, turn), UDA50_OK);
+    copy(window, memory, turn->body);
+    return UDA50_OK;
 }
 
-static const uda50_bus bus = { read_bytes, write_bytes, NULL, window, SIZE };
+static uint32_t end_turn(uda50 *it, uda50_turn_use *turn)
+{
+    uint32_t result = uda50_turn_at(it, window, SIZE, turn);
+
+    for (int n = 0; n < 4; n++)
+        copy(memory, window, turn->written[n]);
+    return result;
+}
+
+static uint32_t whole_turn(uda50 *it)
+{
+    uda50_turn_use turn;
+
+    begin_turn(it, &turn);
+    return end_turn(it, &turn);
+}
 
 static void make(uda50 *it)
 {
@@ -57,8 +77,8 @@ static uda50_blocks begin(uda50 *it, uint8_t opcode, uda50_turn_use *turn)
     post(0, (command){ opcode, 0, 3, 2 * BLOCK, 1 });
     memset(memory + BUFFER, 0x11, 2 * BLOCK);
     uda50_read_ip(it);
-    EXPECT(uda50_bus_turn(it, &bus), UDA50_FETCHED);
-    EXPECT(uda50_bus_begin_turn(it, &bus, turn), UDA50_OK);
+    EXPECT(whole_turn(it), UDA50_FETCHED);
+    EXPECT(begin_turn(it, turn), UDA50_OK);
     EXPECT(uda50_get_blocks(it, window, SIZE, turn, &blocks), UDA50_OK);
     EXPECT(blocks.count, 2);
     return blocks;
@@ -92,7 +112,7 @@ static void reset_between(uint8_t opcode)
     EXPECT(blocks.use, UDA50_NO_BLOCKS);
     memcpy(before, memory, SIZE);
     EXPECT(uda50_save(&uda, state, sizeof state), UDA50_OK);
-    EXPECT(uda50_bus_end_turn(&uda, &bus, &turn), UDA50_IDLE);
+    EXPECT(end_turn(&uda, &turn), UDA50_IDLE);
     EXPECT(memcmp(before, memory, SIZE), 0);
     for (int n = 0; n < 4; n++)
         EXPECT(turn.written[n].bytes, 0);
@@ -116,7 +136,7 @@ static void ready_too_late(uint8_t opcode, uint32_t count)
     begin(&uda, opcode, &turn);
     if (count != 0)
         make_ready(opcode, 1, count);
-    EXPECT(uda50_bus_end_turn(&uda, &bus, &turn), UDA50_EXECUTED);
+    EXPECT(end_turn(&uda, &turn), UDA50_EXECUTED);
     EXPECT(uda50_get_last_turn(&uda, &told), UDA50_OK);
     EXPECT(told.status, count == 2 ? 0 : DRIVE_ERROR);
     EXPECT(told.bytes, count * BLOCK);
@@ -124,7 +144,7 @@ static void ready_too_late(uint8_t opcode, uint32_t count)
         EXPECT(memory[BUFFER + n], opcode == READ && n < count * BLOCK ? 0x55 : 0x11);
 }
 
-/* A turn without its second half has not happened: the next turn is the same. */
+/* A turn without its last step has not happened: the next turn is the same. */
 static void left_out(void)
 {
     static uint8_t after[UDA50_STATE_LENGTH];
@@ -132,7 +152,7 @@ static void left_out(void)
 
     begin(&uda, READ, &turn);
     EXPECT(uda50_save(&uda, state, sizeof state), UDA50_OK);
-    EXPECT(uda50_bus_begin_turn(&uda, &bus, &again), UDA50_OK);
+    EXPECT(begin_turn(&uda, &again), UDA50_OK);
     EXPECT(memcmp(&turn, &again, sizeof turn), 0);
     EXPECT(uda50_save(&uda, after, sizeof after), UDA50_OK);
     EXPECT(memcmp(state, after, sizeof state), 0);
@@ -148,7 +168,7 @@ static void store_between(void)
     begin(&uda, READ, &turn);
     EXPECT(uda50_lend_blocks(&uda, 0, 1, bytes, BLOCK), UDA50_OK);
     memory[BUFFER + BLOCK] = 0x22;
-    EXPECT(uda50_bus_end_turn(&uda, &bus, &turn), UDA50_EXECUTED);
+    EXPECT(end_turn(&uda, &turn), UDA50_EXECUTED);
     EXPECT(uda50_get_last_turn(&uda, &told), UDA50_OK);
     EXPECT(told.status, DRIVE_ERROR);
     EXPECT(told.bytes, BLOCK);
@@ -168,15 +188,43 @@ static void one_after_the_other(void)
         memset(bytes, 0x30 + n, sizeof bytes);
         begin(it, READ, &turn);
         EXPECT(uda50_lend_blocks(it, 0, 1, bytes, sizeof bytes), UDA50_OK);
-        EXPECT(uda50_bus_end_turn(it, &bus, &turn), UDA50_EXECUTED);
+        EXPECT(end_turn(it, &turn), UDA50_EXECUTED);
         EXPECT(memory[BUFFER] == 0x30 + n && memory[BUFFER + 2 * BLOCK - 1] == 0x30 + n, true);
     }
 }
 
 #ifdef UDA50_DEBUG
-/* Ends a turn in a child, after the window has changed at this address or, if it is 0, not. Returns how the child ended. */
+static bool read_bytes(void *context, uint32_t at, uint32_t bytes, uint8_t *to)
+{
+    (void)context;
+    memcpy(to, memory + at, bytes);
+    return true;
+}
+
+static void write_bytes(void *context, uint32_t at, uint32_t bytes, const uint8_t *from)
+{
+    (void)context;
+    memcpy(memory + at, from, bytes);
+}
+
+/* Changes the window at the address that `context` points to, if that isn't 0. */
+static uint32_t write_blocks(void *context, uint32_t lbn, uint32_t count, const uint8_t *from)
+{
+    const uint32_t *address = context;
+
+    (void)lbn, (void)from;
+    if (*address != 0)
+        window[*address] ^= 1;
+    return count;
+}
+
+/* Takes a turn of a machine in a child. Its called image changes the window at this address or, if it is 0, doesn't. Returns
+   how the child ended. */
 static int ended_by(uint32_t address)
 {
+    uda50_called image = { sizeof image, &address, NULL, write_blocks };
+    uda50_machine machine = { .size = sizeof machine, .read = read_bytes, .write = write_bytes, .window = window,
+                              .addresses = SIZE, .images = { &image } };
     uda50_turn_use turn;
     int status = 0;
     pid_t child;
@@ -188,9 +236,7 @@ static int ended_by(uint32_t address)
         setrlimit(RLIMIT_CORE, &(struct rlimit){ 0, 0 });
         if (freopen("/dev/null", "w", stderr) == NULL)
             _exit(9);
-        if (address != 0)
-            window[address] ^= 1;
-        _exit(uda50_bus_end_turn(&uda, &bus, &turn) == UDA50_EXECUTED ? 0 : 8);
+        _exit(uda50_machine_turn(&uda, &machine) == UDA50_EXECUTED ? 0 : 8);
     }
     EXPECT(waitpid(child, &status, 0), child);
     return WIFSIGNALED(status) ? WTERMSIG(status) : -WEXITSTATUS(status);

@@ -2,6 +2,7 @@
 #include "uda50_machine.h"
 #include "uda50_steps.h"
 
+#include <stddef.h>
 #include <string.h>
 #ifdef UDA50_DEBUG
 #include <assert.h>
@@ -9,13 +10,20 @@
 
 enum { BLOCK = 512, PIECE = 32, RANGES = 4 };
 
-/* Where the library finds the guest's bytes: in a window that is filled from the machine's memory, or in that memory. */
+/* The sizes of the structs as they first were. */
+enum {
+    FIRST_MACHINE = offsetof(uda50_machine, images) + sizeof ((uda50_machine *)0)->images,
+    FIRST_CALLED = offsetof(uda50_called, write) + sizeof ((uda50_called *)0)->write
+};
+
+/* Where the library finds the guest's bytes: in a window that is filled from the machine's memory, or in that memory. And
+   whether an image of the machine has functions. */
 typedef struct {
     uda50 *handle;
     const uda50_machine *machine;
     uint8_t *bytes;
     size_t length;
-    bool is_window;
+    bool is_window, has_functions;
 } view;
 
 /* A turn that is about to be taken, and the blocks that it uses of a called image. */
@@ -30,10 +38,11 @@ typedef struct {
 static bool fetch(const view *it, uda50_range range)
 {
     const uda50_machine *m = it->machine;
-    uint8_t *to = it->bytes + range.at;
+    uint8_t *to;
 
     if (!it->is_window || range.bytes == 0)
         return true;
+    to = it->bytes + range.at;
     if (m->memory == NULL)
         return m->read(m->context, range.at, range.bytes, to);
     return uda50_read_mapped(m->memory, m->length, m->map, range.at, to, range.bytes) == UDA50_OK;
@@ -43,19 +52,15 @@ static bool fetch(const view *it, uda50_range range)
 static void store(const view *it, uda50_range range)
 {
     const uda50_machine *m = it->machine;
-    const uint8_t *from = it->bytes + range.at;
+    const uint8_t *from;
 
     if (!it->is_window || range.bytes == 0)
         return;
+    from = it->bytes + range.at;
     if (m->memory == NULL)
         m->write(m->context, range.at, range.bytes, from);
     else
         uda50_write_mapped(m->memory, m->length, m->map, range.at, from, range.bytes);
-}
-
-static bool has_memory(const uda50_machine *m)
-{
-    return m->size >= sizeof *m && (m->memory != NULL || (m->read != NULL && m->write != NULL));
 }
 
 static bool has_functions(const uda50_machine *m)
@@ -66,7 +71,18 @@ static bool has_functions(const uda50_machine *m)
     return false;
 }
 
-/* How many addresses the bus of a map has for which uda50_read_mapped returns UDA50_OK. */
+/* Whether a machine has memory of one kind, and its structs are long enough. */
+static bool is_whole(const uda50_machine *m)
+{
+    if (m->size < FIRST_MACHINE)
+        return false;
+    for (int n = 0; n < UDA50_UNITS; n++)
+        if (m->images[n] != NULL && m->images[n]->size < FIRST_CALLED)
+            return false;
+    return m->memory != NULL || (m->map == NULL && m->read != NULL && m->write != NULL);
+}
+
+/* How many addresses the bus of a valid map has. */
 static size_t addresses_of(const uda50_map *map)
 {
     return (map->in_memory != 0 ? map->in_memory : map->count) << map->page;
@@ -75,19 +91,21 @@ static size_t addresses_of(const uda50_map *map)
 /* Finds where the library finds the guest's bytes. Returns UDA50_OK, or why no turn can be taken there. */
 static uint32_t open_view(uda50 *handle, const uda50_machine *m, view *it)
 {
+    uda50_state state;
     uint8_t none = 0;
-    uint32_t status;
+    uint32_t status = uda50_get_state(handle, &state);
 
-    *it = (view){handle, m, m->window, m->addresses, true};
-    if (m->memory != NULL && m->map == NULL) {
-        *it = (view){handle, m, m->memory, m->length, false};
-    } else if (m->memory != NULL) {
+    *it = (view){handle, m, m->window, m->addresses, true, has_functions(m)};
+    if (status == UDA50_OK && m->memory != NULL && m->map != NULL) {
         status = uda50_read_mapped(m->memory, m->length, m->map, 0, &none, 0);
-        if (status != UDA50_OK)
-            return status;
-        it->length = addresses_of(m->map);
+        it->length = status == UDA50_OK ? addresses_of(m->map) : 0;
+    } else if (m->memory != NULL) {
+        *it = (view){handle, m, m->memory, m->length, false, it->has_functions};
     }
-    return it->is_window && (m->window == NULL || m->addresses < it->length) ? UDA50_NO_WINDOW : UDA50_OK;
+    if (status != UDA50_OK)
+        return status;
+    return it->is_window && (m->window == NULL || m->addresses == 0 || m->addresses < it->length) ? UDA50_NO_WINDOW
+                                                                                               : UDA50_OK;
 }
 
 /* ---- A turn ---- */
@@ -219,8 +237,7 @@ static bool can_move(const view *it, const uda50_blocks *blocks)
 {
     const uda50_called *image = it->machine->images[blocks->unit];
 
-    return image != NULL && image->size >= sizeof *image
-           && (blocks->use == UDA50_WRITES ? image->write != NULL : image->read != NULL);
+    return image != NULL && (blocks->use == UDA50_WRITES ? image->write != NULL : image->read != NULL);
 }
 
 /* Reads or writes the blocks that the turn uses, up to the first that fails. */
@@ -262,7 +279,7 @@ static bool is_any_pending(uda50 *handle)
 static uint32_t take_turn(const view *it)
 {
     prepared p;
-    bool uses_blocks = has_functions(it->machine) && is_any_pending(it->handle);
+    bool uses_blocks = it->has_functions && is_any_pending(it->handle);
     uint32_t status;
 
     if (!it->is_window && !uses_blocks)
@@ -278,7 +295,7 @@ uint32_t uda50_machine_run(uda50 *handle, uint32_t turns, const uda50_machine *m
     view it;
     uint32_t status;
 
-    if (!has_memory(machine))
+    if (!is_whole(machine))
         return UDA50_BAD_MACHINE;
     if (machine->memory != NULL && !has_functions(machine))
         return machine->map == NULL
@@ -307,7 +324,7 @@ uint32_t uda50_machine_write_sa(uda50 *handle, uint16_t word, const uda50_machin
     uint32_t status;
     bool missing;
 
-    if (!has_memory(machine))
+    if (!is_whole(machine))
         return UDA50_BAD_MACHINE;
     if (machine->memory != NULL && machine->map != NULL)
         return uda50_write_sa_mapped(handle, word, machine->memory, machine->length, machine->map);

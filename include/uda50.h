@@ -282,8 +282,8 @@ uint32_t uda50_write_mapped(uint8_t *memory, size_t length, const uda50_map *map
 
 /* A called image has a size and no bytes in memory: the emulator reads and writes its blocks by calls of its own. Such
    images are overlays, compressed files, and files whose blocks may fail. A controller that has one takes its turns by
-   uda50_machine_turn and uda50_machine_run of uda50_machine.h, or by the single steps of uda50_steps.h. By uda50_turn and
-   uda50_run each block of such an image fails. */
+   uda50_machine_turn and uda50_machine_run of uda50_machine.h, or by the single steps of uda50_steps.h. uda50_turn,
+   uda50_run and their mapped forms make no blocks ready: there a command fails at its first block that isn't. */
 
 /* Attaches a called image of this many blocks to unit 0 to 3. Otherwise it does what uda50_attach does. Returns UDA50_OK,
    or the first that holds of UDA50_NO_CONTROLLER, UDA50_NO_SUCH_UNIT, UDA50_ALREADY_ATTACHED, UDA50_BAD_LENGTH and

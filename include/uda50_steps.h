@@ -1,10 +1,11 @@
 /* uda50_steps.h: the single steps of a turn, for an emulator that does something between them, such as asynchronous I/O.
-   All others take their turns by uda50_machine.h, whose uda50_machine.c makes these calls in their order.
+   Others use uda50_machine.h, whose uda50_machine.c makes these calls in their order, or the turns of uda50.h.
 
    The emulator has a window with as many bytes as the bus has addresses. Memory that is one array is its own window. For a
-   turn:
-     1. it copies into the window the ranges of uda50_get_descriptors from the guest's memory;
-     2. it copies the range of uda50_get_body, and sets `missing`;
+   turn it sets a uda50_turn_use to zero. Then:
+     1. it copies into the window the ranges of uda50_get_descriptors from the guest's memory, and sets the bits of `missing`
+        for the first and the third of them;
+     2. it copies the range of uda50_get_body, and sets that bit of `missing`;
      3. it calls uda50_get_blocks, if an image is called. If `count` isn't 0, it goes through these blocks in rising order,
         in pieces of any size. It ends at the first block that it can't read or write:
           UDA50_READS: it reads them, and lends their bytes by uda50_lend_blocks.

@@ -229,7 +229,7 @@ static void free_machine(machine *it)
 
 static void write_sa(machine *it, uint16_t word)
 {
-    if (it == &called || it->way == CALLS)
+    if (it == &called || it->way == CALLS || any(2) == 0)
         EXPECT(uda50_machine_write_sa(&it->uda, word, &it->reached), UDA50_OK);
     else if (it->way == ARRAY)
         uda50_write_sa(&it->uda, word, it->physical, MEMORY);
@@ -239,9 +239,9 @@ static void write_sa(machine *it, uint16_t word)
 
 static uint32_t plain_turn(machine *it)
 {
-    return it->way == ARRAY   ? uda50_turn(&it->uda, it->physical, MEMORY)
-           : it->way == CALLS ? uda50_machine_turn(&it->uda, &it->reached)
-                              : uda50_turn_mapped(&it->uda, it->physical, PHYSICAL, &it->map);
+    return it->way == CALLS || any(2) == 0 ? uda50_machine_turn(&it->uda, &it->reached)
+           : it->way == ARRAY              ? uda50_turn(&it->uda, it->physical, MEMORY)
+                                           : uda50_turn_mapped(&it->uda, it->physical, PHYSICAL, &it->map);
 }
 
 /* A turn of the controller with images in memory. Of a unit whose other image is a called one the same block
@@ -819,12 +819,18 @@ static void refused_machines(void)
         refused(&it, UDA50_BAD_MACHINE, UDA50_BAD_MACHINE);
         EXPECT(uda50_machine_turn(&none, &it), UDA50_BAD_MACHINE);
         it = called.reached;
+        it.memory = NULL;
+        it.map = &called.map;
+        it.read = read_bytes;
+        it.write = write_bytes;
+        refused(&it, UDA50_BAD_MACHINE, UDA50_BAD_MACHINE);
+        it = called.reached;
         it.images[0] = NULL;
         refused(&it, UDA50_NO_FUNCTIONS, UDA50_OK);
         partial = images[0];
         partial.size--;
         it.images[0] = &partial;
-        refused(&it, UDA50_NO_FUNCTIONS, UDA50_OK);
+        refused(&it, UDA50_BAD_MACHINE, UDA50_BAD_MACHINE);
         partial = images[0];
         partial.read = way == CALLS ? NULL : partial.read;
         partial.write = way == CALLS ? partial.write : NULL;
@@ -840,19 +846,59 @@ static void refused_machines(void)
         it.addresses = MEMORY - 1;
         if (way == CALLS)
             refused(&it, UDA50_BAD_LENGTH, UDA50_OK);
+        it.addresses = 0;
+        if (way != ARRAY)
+            refused(&it, UDA50_NO_WINDOW, way == CALLS ? UDA50_NO_WINDOW : UDA50_OK);
         map = called.map;
         map.page = 32;
         it = called.reached;
         it.map = &map;
         if (way == MAPPED)
             refused(&it, UDA50_BAD_MAP, UDA50_BAD_MAP);
+        it = called.reached;
+        it.map = way == MAPPED ? &map : NULL;
+        it.window = NULL;
+        EXPECT(uda50_machine_run(&none, 0, &it), UDA50_NO_CONTROLLER);
+        EXPECT(uda50_machine_write_sa(&none, 0, &it), UDA50_NO_CONTROLLER);
+        called.reached.size += 8; /* as a later program has it */
         EXPECT(called_turn(), UDA50_EXECUTED);
         EXPECT(moved.end - moved.first, 1);
         EXPECT(uda50_machine_run(&called.uda, TURNS, &called.reached), UDA50_IDLE);
     }
 }
 
-/* A window that is longer than the bus has addresses, and images in memory that need none. */
+/* A function that is missing ends a run before the turn that needs it. A machine without functions has no blocks. */
+static void missing_functions(void)
+{
+    uda50_machine it;
+    uda50_state state;
+
+    for (int way = 0; way < WAYS; way++) {
+        begin(way);
+        it = called.reached;
+        it.images[0] = NULL;
+        for (int n = 0; n < 2; n++) {
+            post(posted % COMMANDS, (command){ READ, 0, 1, 2 * BLOCK, 5 });
+            give_response(posted++ % RESPONSES);
+            show();
+            uda50_read_ip(&called.uda);
+            memset(&moved, 0, sizeof moved);
+            EXPECT(uda50_machine_run(&called.uda, TURNS, &it), n == 0 ? UDA50_NO_FUNCTIONS : UDA50_IDLE);
+            EXPECT(uda50_get_state(&called.uda, &state), UDA50_OK);
+            EXPECT(state.pending, n == 0);
+            EXPECT(moved.calls, 0);
+            see();
+            if (n == 0) {
+                EXPECT(uda50_machine_run(&called.uda, TURNS, &called.reached), UDA50_IDLE);
+                EXPECT(moved.end - moved.first, 2);
+                it.images[1] = it.images[2] = NULL;
+            } else
+                EXPECT(get16(response_at((posted - 1) % RESPONSES) + 10), DRIVE_ERROR);
+        }
+    }
+}
+
+/* A window that is longer than the bus has addresses, which end where the map ends. Images in memory need none. */
 static void any_window(void)
 {
     static uint8_t window[2 * MEMORY];
@@ -872,9 +918,19 @@ static void any_window(void)
     EXPECT(memcmp(memory + BUFFER, called.disks[0] + 5 * BLOCK, 3 * BLOCK), 0);
     for (uint32_t n = MEMORY; n < sizeof window; n++)
         EXPECT(window[n], 0x99);
+    post(posted % COMMANDS, (command){ READ, 0, 1, 2 * BLOCK, 0 });
+    put32(command_at(posted % COMMANDS) + 16, MEMORY - BLOCK);
+    give_response(posted % RESPONSES);
+    show();
+    uda50_read_ip(&called.uda);
+    memset(&moved, 0, sizeof moved);
+    EXPECT(uda50_machine_run(&called.uda, TURNS, &it), UDA50_IDLE);
+    see();
+    EXPECT(get16(response_at(posted++ % RESPONSES) + 10), NO_BUFFER);
+    EXPECT(moved.calls, 0);
     reach(&held, MAPPED);
     held.reached.window = NULL;
-    EXPECT(uda50_machine_run(&held.uda, TURNS, &held.reached) < UDA50_NO_CONTROLLER, true);
+    EXPECT(uda50_machine_turn(&held.uda, &held.reached) < UDA50_DEAD, true);
 }
 
 /* ---- Memory ---- */
@@ -1178,6 +1234,7 @@ int main(int count, char **arguments)
     statuses_of_images();
     statuses_of_turns();
     refused_machines();
+    missing_functions();
     any_window();
     ended_runs();
     run_after_attention();

@@ -3,6 +3,7 @@
 #define _POSIX_C_SOURCE 200809L
 #include "uda50_file.h"
 #include "uda50_machine.h"
+#include "uda50_steps.h"
 
 #include <stdlib.h>
 #include <unistd.h>
@@ -23,6 +24,10 @@ bool attach(uda50 *uda, uint32_t unit, uda50_file *file, const char *path);
 bool detach(uda50 *uda, uint32_t unit, uda50_file *file);
 uint32_t take_turns_of_11_70(uda50 *uda), take_turns_by_calls(uda50 *uda), take_turns_over_overlay(uda50 *uda);
 uint32_t take_turns_of_vax(uda50 *uda);
+void write_sa_of_vax(uda50 *uda, uint16_t word);
+uint32_t begin_turn(uda50 *uda, uda50_turn_use *turn), end_turn(uda50 *uda, uda50_turn_use *turn);
+bool read_dma(uda50_range range, uint8_t *to);
+void write_dma(uda50_range range, const uint8_t *from);
 bool attach_overlay(uda50 *uda);
 bool read_base(uint32_t lbn, uint8_t *to), read_second(uint32_t lbn, uint8_t *to);
 bool write_second(uint32_t lbn, const uint8_t *from);
@@ -397,7 +402,11 @@ static void play_vax(void)
     EXPECT(uda50_new_as(&uda, UDA50_QBUS, 0), UDA50_OK);
     for (uint32_t unit = 0; unit < UDA50_UNITS; unit++)
         EXPECT(uda50_attach_called(&uda, unit, 8, false), UDA50_OK);
-    start(&uda);
+    memset(memory, 0, sizeof memory);
+    memset(vax_memory + GUEST, 0xee, MEMORY);
+    for (int n = 0; n < 4; n++)
+        write_sa_of_vax(&uda, (const uint16_t[]){ 0x8080 | 1 << 11 | 2 << 8 | VECTOR / 4, BASE, 0, 1 }[n]);
+    EXPECT(vax_memory[GUEST + BASE] == 0 && vax_memory[GUEST + BASE - 9] == 0xee, true);
     for (uint16_t unit = 0; unit < UDA50_UNITS; unit++) {
         EXPECT(executed(turns_of_vax, &uda, (command){ ONLINE, unit, reference++, 0, 0 }, &bytes), 0);
         EXPECT(executed(turns_of_vax, &uda, (command){ READ, unit, reference++, BLOCK, 5 }, &bytes), 0);
@@ -405,6 +414,50 @@ static void play_vax(void)
         EXPECT(executed(turns_of_vax, &uda, (command){ WRITE, unit, reference++, 3 * BLOCK, 1 }, &bytes), DRIVE_ERROR);
         EXPECT(bytes, 2 * BLOCK);
     }
+    EXPECT(uda50_free(&uda, images), UDA50_OK);
+}
+
+/* ---- The steps of a turn ---- */
+
+uint8_t dma_window[MEMORY];
+
+bool read_dma(uda50_range range, uint8_t *to)
+{
+    memcpy(to, memory + range.at, range.bytes);
+    return true;
+}
+
+void write_dma(uda50_range range, const uint8_t *from)
+{
+    memcpy(memory + range.at, from, range.bytes);
+}
+
+static uint32_t turn_by_steps(uda50 *uda)
+{
+    uda50_turn_use turn;
+
+    memset(dma_window, 0x77, sizeof dma_window);
+    EXPECT(begin_turn(uda, &turn), UDA50_OK);
+    EXPECT(turn.missing, 0);
+    return end_turn(uda, &turn);
+}
+
+static void play_steps(void)
+{
+    static uint8_t disk[8 * BLOCK];
+    uda50_image image = { disk, sizeof disk }, images[UDA50_UNITS] = { { NULL, 0 } };
+    uda50 uda = { NULL };
+    uint32_t bytes;
+
+    EXPECT(uda50_new(&uda, true), UDA50_OK);
+    EXPECT(uda50_attach(&uda, 0, &image, false), UDA50_OK);
+    start(&uda);
+    EXPECT(executed(turn_by_steps, &uda, (command){ ONLINE, 0, 0, 0, 0 }, &bytes), 0);
+    memset(memory + BUFFER, 's', 2 * BLOCK);
+    EXPECT(executed(turn_by_steps, &uda, (command){ WRITE, 0, 1, 2 * BLOCK, 3 }, &bytes), 0);
+    EXPECT(disk[3 * BLOCK] == 's' && disk[5 * BLOCK - 1] == 's' && disk[5 * BLOCK] == 0, true);
+    EXPECT(executed(turn_by_steps, &uda, (command){ READ, 0, 2, 3 * BLOCK, 2 }, &bytes), 0);
+    EXPECT(memory[BUFFER] == 0 && memory[BUFFER + BLOCK] == 's' && memory[BUFFER + 3 * BLOCK - 1] == 's', true);
     EXPECT(uda50_free(&uda, images), UDA50_OK);
 }
 
@@ -459,6 +512,7 @@ int main(void)
     reach_memory();
     play_overlay();
     play_vax();
+    play_steps();
     fclose(stderr);
     expect_errors();
     return ended();

@@ -295,8 +295,10 @@ static void write_sa(controller *it, uint16 word)
     uda50_map map;
     uda50_machine machine = machine_of(it, &map);
 
-    if (uda50_machine_write_sa(&it->uda, word, &machine) != UDA50_OK)
-        printf("RQ: no memory for the window of the bus\n");
+    uint32 status = uda50_machine_write_sa(&it->uda, word, &machine);
+
+    if (status != UDA50_OK)
+        printf("RQ: uda50_machine_write_sa: status %u\n", status);
 }
 
 /* A processor has one request for all controllers, and asks by rq_acknowledge which of them it is. */

@@ -1,10 +1,12 @@
 /* speed.c: what the port costs a program in C, in processor time: turns, and Reads of 32 blocks and of one through
-   rings of eight descriptors, over an image that is mapped.
+   rings of eight descriptors, over an image that is mapped. Then the same over a called image and memory that the bus
+   reaches through map registers.
 
    Usage: speed IMAGE ROUNDS; prints a line for each work. */
 #define _POSIX_C_SOURCE 200809L
 #include "uda50.h"
 #include "uda50_file.h"
+#include "uda50_machine.h"
 
 #include <stdio.h>
 #include <stdlib.h>
@@ -21,9 +23,37 @@ typedef struct {
     uint32_t blocks;
 } errand;
 
-static uint8_t memory[SIZE];
+static uint8_t memory[SIZE], window[SIZE];
 static uda50 uda;
 static uint32_t place, turns; /* the next descriptor of both rings */
+
+/* The called image, and a machine whose bus addresses lead to the same ones of memory. */
+static const uint8_t *blocks;
+
+static uint32_t read_blocks(void *context, uint32_t lbn, uint32_t count, uint8_t *to)
+{
+    (void)context;
+    memcpy(to, blocks + (size_t)lbn * 512, (size_t)count * 512);
+    return count;
+}
+
+static uint32_t registers[SIZE >> 13];
+static const uda50_map map = {.registers = registers, .count = SIZE >> 13, .page = 13, .frame = 0x3fffff};
+static const uda50_called image = {.size = sizeof image, .read = read_blocks};
+static const uda50_machine mapped = {.size = sizeof mapped, .memory = memory, .length = SIZE, .map = &map, .window = window,
+                                     .addresses = SIZE, .images = {&image}};
+
+static uint32_t turn_of_array(void)
+{
+    return uda50_turn(&uda, memory, SIZE);
+}
+
+static uint32_t turn_of_mapped(void)
+{
+    return uda50_machine_turn(&uda, &mapped);
+}
+
+static uint32_t (*take_turn)(void) = turn_of_array;
 
 static void put16(uint32_t at, uint32_t word)
 {
@@ -71,7 +101,7 @@ static bool done(errand of, uint32_t block, uint32_t count)
         post(of, (place + i) % COUNT, block + i * of.blocks);
     uda50_read_ip(&uda);
     do {
-        turn = uda50_turn(&uda, memory, SIZE);
+        turn = take_turn();
         turns++;
     } while (turn != UDA50_IDLE && turn < UDA50_DEAD);
     for (uint32_t i = 0; i < count; i++, place = (place + 1) % COUNT) {
@@ -86,6 +116,7 @@ static bool start(void)
     static const uint16_t words[] = {0x8000 | 3 << 11 | 3 << 8, RINGS, 0, 1};
     static const errand first[] = {{"", SET_CONTROLLER, 0}, {"", ONLINE, 0}};
 
+    place = 0;
     for (size_t i = 0; i < sizeof words / sizeof *words; i++)
         uda50_write_sa(&uda, words[i], memory, SIZE);
     return done(first[0], 0, 1) && done(first[1], 0, 1);
@@ -99,28 +130,45 @@ static double now(void)
     return (double)time.tv_sec + (double)time.tv_nsec * 1e-9;
 }
 
-int main(int argc, char **argv)
+/* Prints a line for each work, of that many rounds. */
+static bool measure(const char *how, uint32_t rounds)
 {
     static const errand errands[] = {{"status 0", GET_UNIT_STATUS, 0}, {"read 1", READ, 1}, {"read 32", READ, 32}};
-    uda50_image images[UDA50_UNITS] = {{NULL, 0}};
-    uda50_file file;
 
-    if (argc != 3 || uda50_file_open(&file, argv[1], true) != UDA50_FILE_OK || uda50_new(&uda, true) != UDA50_OK
-        || uda50_file_attach(&uda, 0, &file) != UDA50_OK || !start())
-        return 2;
     for (size_t i = 0; i < sizeof errands / sizeof *errands; i++) {
-        uint32_t rounds = (uint32_t)atoi(argv[2]);
         double since = now(), spent;
 
         turns = 0;
         for (uint32_t round = 0; round < rounds; round++)
             for (uint32_t group = 0; group < ROUND; group++)
                 if (!done(errands[i], group * COUNT * errands[i].blocks, COUNT))
-                    return 1;
+                    return false;
         spent = now() - since;
-        printf("from C: %-12s %12.0f commands/s %12.0f turns/s\n", errands[i].name,
-               rounds * ROUND * COUNT / spent, turns / spent);
+        printf("%s: %-12s %12.0f commands/s %12.0f turns/s\n", how, errands[i].name, rounds * ROUND * COUNT / spent,
+               turns / spent);
     }
+    return true;
+}
+
+int main(int argc, char **argv)
+{
+    uda50_image images[UDA50_UNITS] = {{NULL, 0}};
+    uda50_file file;
+
+    if (argc != 3 || uda50_file_open(&file, argv[1], true) != UDA50_FILE_OK || uda50_new(&uda, true) != UDA50_OK
+        || uda50_file_attach(&uda, 0, &file) != UDA50_OK || !start())
+        return 2;
+    if (!measure("from C", (uint32_t)atoi(argv[2])))
+        return 1;
     uda50_free(&uda, images);
+    blocks = images[0].at;
+    for (uint32_t n = 0; n < SIZE >> 13; n++)
+        registers[n] = n << 13;
+    if (uda50_new(&uda, true) != UDA50_OK || uda50_attach_called(&uda, 0, images[0].length / 512, true) != UDA50_OK || !start())
+        return 2;
+    take_turn = turn_of_mapped;
+    if (!measure("mapped, by calls", (uint32_t)atoi(argv[2])))
+        return 1;
+    uda50_free(&uda, (uda50_image[UDA50_UNITS]){{NULL, 0}});
     return uda50_file_close(&file) == UDA50_FILE_OK ? 0 : 1;
 }

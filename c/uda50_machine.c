@@ -65,21 +65,20 @@ static void store(const view *it, uda50_range range)
 
 static bool has_functions(const uda50_machine *m)
 {
-    for (int n = 0; n < UDA50_UNITS; n++)
-        if (m->images[n] != NULL)
-            return true;
-    return false;
+    return m->images[0] != NULL || m->images[1] != NULL || m->images[2] != NULL || m->images[3] != NULL;
+}
+
+static bool is_long_enough(const uda50_called *image)
+{
+    return image == NULL || image->size >= FIRST_CALLED;
 }
 
 /* Whether a machine has memory of one kind, and its structs are long enough. */
 static bool is_whole(const uda50_machine *m)
 {
-    if (m->size < FIRST_MACHINE)
-        return false;
-    for (int n = 0; n < UDA50_UNITS; n++)
-        if (m->images[n] != NULL && m->images[n]->size < FIRST_CALLED)
-            return false;
-    return m->memory != NULL || (m->map == NULL && m->read != NULL && m->write != NULL);
+    return m->size >= FIRST_MACHINE && is_long_enough(m->images[0]) && is_long_enough(m->images[1])
+           && is_long_enough(m->images[2]) && is_long_enough(m->images[3])
+           && (m->memory != NULL || (m->map == NULL && m->read != NULL && m->write != NULL));
 }
 
 /* How many addresses the bus of a valid map has. */
@@ -295,12 +294,12 @@ uint32_t uda50_machine_run(uda50 *handle, uint32_t turns, const uda50_machine *m
     view it;
     uint32_t status;
 
-    if (!is_whole(machine))
-        return UDA50_BAD_MACHINE;
-    if (machine->memory != NULL && !has_functions(machine))
+    if (machine->size >= FIRST_MACHINE && machine->memory != NULL && !has_functions(machine))
         return machine->map == NULL
                    ? uda50_run(handle, turns, machine->memory, machine->length)
                    : uda50_run_mapped(handle, turns, machine->memory, machine->length, machine->map);
+    if (!is_whole(machine))
+        return UDA50_BAD_MACHINE;
     status = open_view(handle, machine, &it);
     if (status == UDA50_OK)
         status = uda50_run(handle, 0, it.bytes, it.length); /* or why no turn can be taken */

@@ -143,14 +143,8 @@ impl Memory {
     /// Runs a turn of a port.
     pub fn turn(&mut self, port: &mut Port<RecordingImage>) -> Result<Trace, CaseFault> {
         match self {
-            Memory::Host(memory) => Ok(traced_turn(port, memory.as_mut_slice())),
-            Memory::Slice(slice) => {
-                let bytes = slice.next()?;
-                if !is_memory(bytes) {
-                    return Err(CaseFault::Memory);
-                }
-                Ok(traced_turn(port, bytes))
-            }
+            Memory::Host(memory) => traced_turn(port, memory.as_mut_slice()),
+            Memory::Slice(slice) => traced_turn(port, slice.next()?),
         }
     }
 
@@ -164,11 +158,8 @@ impl Memory {
             Memory::Host(memory) => Ok(port.play(events, memory)),
             Memory::Slice(slice) => {
                 let bytes = slice.next()?;
-                if !is_memory(bytes) {
-                    return Err(CaseFault::Memory);
-                }
                 for &event in events {
-                    play_one(port, event, bytes);
+                    play_one(port, event, bytes)?;
                 }
                 Ok(port.read_sa())
             }
@@ -211,14 +202,24 @@ impl Memory {
 }
 
 // Runs a turn of a port over these bytes, and returns its trace record.
-fn traced_turn(port: &mut Port<RecordingImage>, bytes: &mut [u8]) -> Trace {
+fn traced_turn(port: &mut Port<RecordingImage>, bytes: &mut [u8]) -> Result<Trace, CaseFault> {
+    if !is_memory(bytes) {
+        return Err(CaseFault::Memory);
+    }
     let mut trace = Trace::Idle;
     port.turn_at(bytes, None, &mut trace);
-    trace
+    Ok(trace)
 }
 
 // Applies one event to a port over these bytes. It repeats the rules of `Port::play`, which takes only a host's memory.
-fn play_one(port: &mut Port<RecordingImage>, event: HostEvent, bytes: &mut [u8]) {
+fn play_one(
+    port: &mut Port<RecordingImage>,
+    event: HostEvent,
+    bytes: &mut [u8],
+) -> Result<(), CaseFault> {
+    if !is_memory(bytes) {
+        return Err(CaseFault::Memory);
+    }
     match event {
         HostEvent::WriteIp => port.write_ip(0),
         HostEvent::ReadIp => {
@@ -232,4 +233,5 @@ fn play_one(port: &mut Port<RecordingImage>, event: HostEvent, bytes: &mut [u8])
             port.turn_in(bytes);
         }
     }
+    Ok(())
 }

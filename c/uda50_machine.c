@@ -3,7 +3,7 @@
 #include "uda50_steps.h"
 
 #include <stddef.h>
-#include <string.h>
+#include <stdlib.h>
 #ifdef UDA50_DEBUG
 #include <assert.h>
 #endif
@@ -16,21 +16,14 @@ enum {
     FIRST_CALLED = offsetof(uda50_called, write) + sizeof ((uda50_called *)0)->write
 };
 
-/* Where the library finds the guest's bytes: in a window that is filled from the machine's memory, or in that memory. And
-   whether an image of the machine has functions. */
+/* Where the library finds the guest's bytes: in a window that is filled from the machine's memory, or in that memory. */
 typedef struct {
     uda50 *handle;
     const uda50_machine *machine;
     uint8_t *bytes;
     size_t length;
-    bool is_window, has_functions;
+    bool is_window;
 } view;
-
-/* A turn that is about to be taken, and the blocks that it uses of a called image. */
-typedef struct {
-    uda50_turn_use turn;
-    uda50_blocks blocks;
-} prepared;
 
 /* ---- A machine's memory ---- */
 
@@ -63,11 +56,6 @@ static void store(const view *it, uda50_range range)
         uda50_write_mapped(m->memory, m->length, m->map, range.at, from, range.bytes);
 }
 
-static bool has_functions(const uda50_machine *m)
-{
-    return m->images[0] != NULL || m->images[1] != NULL || m->images[2] != NULL || m->images[3] != NULL;
-}
-
 static bool is_long_enough(const uda50_called *image)
 {
     return image == NULL || image->size >= FIRST_CALLED;
@@ -87,31 +75,40 @@ static size_t addresses_of(const uda50_map *map)
     return (map->in_memory != 0 ? map->in_memory : map->count) << map->page;
 }
 
+/* Returns UDA50_OK, or UDA50_NO_CONTROLLER. */
+static uint32_t look_for_controller(uda50 *handle)
+{
+    uint8_t none = 0;
+    uda50_range area;
+
+    return uda50_get_zeroed(handle, 0, &none, 0, &area);
+}
+
 /* Finds where the library finds the guest's bytes. Returns UDA50_OK, or why no turn can be taken there. */
 static uint32_t open_view(uda50 *handle, const uda50_machine *m, view *it)
 {
-    uda50_state state;
     uint8_t none = 0;
-    uint32_t status = uda50_get_state(handle, &state);
+    uint32_t status = UDA50_OK;
 
-    *it = (view){handle, m, m->window, m->addresses, true, has_functions(m)};
-    if (status == UDA50_OK && m->memory != NULL && m->map != NULL) {
+    *it = (view){handle, m, m->window, m->addresses, true};
+    if (m->memory != NULL && m->map == NULL) {
+        *it = (view){handle, m, m->memory, m->length, false};
+        return UDA50_OK;
+    }
+    if (m->memory != NULL) {
         status = uda50_read_mapped(m->memory, m->length, m->map, 0, &none, 0);
         it->length = status == UDA50_OK ? addresses_of(m->map) : 0;
-    } else if (m->memory != NULL) {
-        *it = (view){handle, m, m->memory, m->length, false, it->has_functions};
     }
-    if (status != UDA50_OK)
-        return status;
-    return it->is_window && (m->window == NULL || m->addresses == 0 || m->addresses < it->length) ? UDA50_NO_WINDOW
-                                                                                               : UDA50_OK;
+    if (status == UDA50_OK && (m->window == NULL || m->addresses == 0 || m->addresses < it->length))
+        status = look_for_controller(handle) == UDA50_OK ? UDA50_NO_WINDOW : UDA50_NO_CONTROLLER;
+    return status;
 }
 
 /* ---- A turn ---- */
 
-/* Reads the next descriptor of a ring and the one before it. If they are side by side and there, one call reads both, and
-   in a ring of one they are the same. Returns whether the next one is there. One before it that isn't there counts as one
-   that the host owns. */
+/* Reads the next descriptor of a ring and the one before it. If they are side by side and there, one call reads both,
+   and in a ring of one they are the same. Returns whether the next one is there. One before it that isn't there counts
+   as one that the host owns. */
 static bool fetch_pair(const view *it, uda50_range next, uda50_range before)
 {
     uda50_range both = {before.at, before.bytes + next.bytes};
@@ -142,7 +139,8 @@ static uint32_t sum_of(const view *it, const uda50_turn_use *turn)
 }
 #endif
 
-/* Notes what a turn has read into the window, in a range that the turn fills later. Does nothing without UDA50_DEBUG. */
+/* Notes what a turn has read into the window, in a range that the turn fills later. Does nothing without UDA50_DEBUG.
+   */
 static void note_window(const view *it, uda50_turn_use *turn)
 {
 #ifdef UDA50_DEBUG
@@ -162,21 +160,26 @@ static void expect_window(const view *it, const uda50_turn_use *turn)
 #endif
 }
 
-/* Reads what the next turn may need. */
-static uint32_t begin_turn(const view *it, uda50_turn_use *turn)
+/* Reads the descriptors of the next turn into the window. */
+static void fetch_descriptors(const view *it, uda50_turn_use *turn)
 {
     const uda50_range *of = turn->descriptors;
-    uint32_t status = UDA50_OK;
 
-    memset(turn, 0, sizeof *turn);
-    if (it->is_window)
-        status = uda50_get_descriptors(it->handle, it->bytes, it->length, turn);
-    if (status != UDA50_OK)
-        return status;
     if (!fetch_pair(it, of[0], of[1]))
         turn->missing |= UDA50_MISSING_COMMAND;
     if (!fetch_pair(it, of[2], of[3]))
         turn->missing |= UDA50_MISSING_RESPONSE;
+}
+
+/* Reads what the next turn may need. */
+static uint32_t begin_turn(const view *it, uda50_turn_use *turn)
+{
+    uint32_t status = uda50_get_descriptors(it->handle, it->bytes, it->length, turn);
+
+    if (status != UDA50_OK)
+        return status;
+    if (it->is_window)
+        fetch_descriptors(it, turn);
     status = uda50_get_body(it->handle, it->bytes, it->length, turn);
     if (status == UDA50_OK && !fetch(it, turn->body))
         turn->missing |= UDA50_MISSING_BODY;
@@ -191,8 +194,9 @@ static uint32_t end_turn(const view *it, uda50_turn_use *turn)
 
     expect_window(it, turn);
     status = uda50_turn_at(it->handle, it->bytes, it->length, turn);
-    for (int i = 0; i < RANGES; i++)
-        store(it, turn->written[i]);
+    if (it->is_window)
+        for (int i = 0; i < RANGES; i++)
+            store(it, turn->written[i]);
     return status;
 }
 
@@ -203,34 +207,6 @@ static uint32_t least(uint32_t one, uint32_t other)
     return one < other ? one : other;
 }
 
-/* Reads a piece of *count blocks, after the first `skip`. Stores in *count how many could be read, and says so. */
-static uint32_t read_piece(const view *it, const prepared *p, uint32_t skip, uint32_t *count)
-{
-    const uda50_called *image = it->machine->images[p->blocks.unit];
-    uint32_t first = p->blocks.first + skip;
-    uint8_t bytes[PIECE * BLOCK];
-
-    *count = least(image->read(image->context, first, *count, bytes), *count);
-    if (*count == 0)
-        return UDA50_OK;
-    if (p->blocks.use == UDA50_CHECKS)
-        return uda50_allow_blocks(it->handle, p->blocks.unit, UDA50_CHECKS, *count);
-    return uda50_lend_blocks(it->handle, p->blocks.unit, first, bytes, *count * BLOCK);
-}
-
-/* Writes a piece of *count blocks, after the first `skip`. Stores in *count how many are written, and says so. */
-static uint32_t write_piece(const view *it, const prepared *p, uint32_t skip, uint32_t *count)
-{
-    const uda50_called *image = it->machine->images[p->blocks.unit];
-    uint8_t bytes[PIECE * BLOCK];
-    uint32_t status = uda50_get_written(it->handle, it->bytes, it->length, &p->turn, skip, bytes, *count * BLOCK);
-
-    if (status != UDA50_OK)
-        return status;
-    *count = least(image->write(image->context, p->blocks.first + skip, *count, bytes), *count);
-    return *count == 0 ? UDA50_OK : uda50_allow_blocks(it->handle, p->blocks.unit, UDA50_WRITES, *count);
-}
-
 /* Whether the machine has the function that moves these blocks. */
 static bool can_move(const view *it, const uda50_blocks *blocks)
 {
@@ -239,76 +215,119 @@ static bool can_move(const view *it, const uda50_blocks *blocks)
     return image != NULL && (blocks->use == UDA50_WRITES ? image->write != NULL : image->read != NULL);
 }
 
-/* Reads or writes the blocks that the turn uses, up to the first that fails. */
-static uint32_t move_blocks(const view *it, const prepared *p)
+/* Reads or writes the next piece of `wanted` blocks. Its bytes are at `piece`. Stores in *moved how many could be
+   moved. */
+static uint32_t move_piece(const view *it, uda50_turn_use *turn, uint8_t *piece, uint32_t wanted, uint32_t *moved)
 {
-    uint32_t wanted, moved, status;
+    const uda50_called *image = it->machine->images[turn->blocks.unit];
+    uint32_t lbn = turn->blocks.first + turn->ready, status = UDA50_OK;
 
-    for (uint32_t skip = 0; skip < p->blocks.count; skip += moved) {
-        moved = wanted = least(p->blocks.count - skip, PIECE);
-        status = p->blocks.use == UDA50_WRITES ? write_piece(it, p, skip, &moved) : read_piece(it, p, skip, &moved);
+    if (turn->blocks.use == UDA50_WRITES)
+        status = uda50_get_written(it->handle, it->bytes, it->length, turn, turn->ready, piece, wanted * BLOCK);
+    if (status == UDA50_OK)
+        *moved = turn->blocks.use == UDA50_WRITES ? image->write(image->context, lbn, wanted, piece)
+                                                  : image->read(image->context, lbn, wanted, piece);
+    return status;
+}
+
+/* Reads or writes the blocks of the turn, up to the first that fails. The bytes of a Read are at `bytes`, one block
+   after the other. Those of another command are there piece by piece. */
+static uint32_t move_blocks(const view *it, uda50_turn_use *turn, uint8_t *bytes)
+{
+    bool reads = turn->blocks.use == UDA50_READS;
+    uint32_t wanted, moved = 0, status;
+
+    do {
+        wanted = least(turn->blocks.count - turn->ready, PIECE);
+        status = move_piece(it, turn, reads ? bytes + (size_t)turn->ready * BLOCK : bytes, wanted, &moved);
         if (status != UDA50_OK)
             return status;
-        if (moved < wanted)
-            break;
-    }
+        turn->ready += least(moved, wanted);
+    } while (moved >= wanted && turn->ready < turn->blocks.count);
+    if (reads)
+        turn->lent = (uda50_image){bytes, (size_t)turn->ready * BLOCK};
     return UDA50_OK;
 }
 
-/* Makes the blocks ready that the turn uses of a called image, if it uses any. */
-static uint32_t prepare_blocks(const view *it, prepared *p)
+/* Moves the blocks of the turn, and takes it. */
+static uint32_t end_with_blocks(const view *it, uda50_turn_use *turn)
 {
-    uint32_t status = uda50_get_blocks(it->handle, it->bytes, it->length, &p->turn, &p->blocks);
+    uint8_t piece[PIECE * BLOCK], *bytes = piece;
+    uint32_t status;
 
-    if (status != UDA50_OK || p->blocks.count == 0)
-        return status;
-    return can_move(it, &p->blocks) ? move_blocks(it, p) : UDA50_NO_FUNCTIONS;
+    if (!can_move(it, &turn->blocks))
+        return UDA50_NO_FUNCTIONS;
+    if (turn->blocks.use == UDA50_READS && turn->blocks.count > PIECE)
+        bytes = malloc((size_t)turn->blocks.count * BLOCK);
+    if (bytes == NULL)
+        return UDA50_NO_MEMORY;
+    status = move_blocks(it, turn, bytes);
+    if (status == UDA50_OK)
+        status = end_turn(it, turn);
+    turn->lent = (uda50_image){NULL, 0};
+    if (bytes != piece)
+        free(bytes);
+    return status;
 }
 
 /* ---- Turns ---- */
 
-/* Whether a command may be executed next. One that a turn fetches is executed in a later turn. */
-static bool is_any_pending(uda50 *handle)
+/* Whether the machine is to move blocks for the turn. */
+static bool uses_blocks(const uda50_turn_use *turn)
 {
-    uda50_state state;
-
-    return uda50_get_state(handle, &state) == UDA50_OK && state.pending != 0;
+    return turn->blocks.count != 0 && (turn->missing & UDA50_MISSING_BODY) == 0;
 }
 
-static uint32_t take_turn(const view *it)
+static uint32_t take_turn(const view *it, uda50_turn_use *turn)
 {
-    prepared p;
-    bool uses_blocks = it->has_functions && is_any_pending(it->handle);
-    uint32_t status;
+    uint32_t status = begin_turn(it, turn);
 
-    if (!it->is_window && !uses_blocks)
-        return uda50_turn(it->handle, it->bytes, it->length);
-    status = begin_turn(it, &p.turn);
-    if (status == UDA50_OK && uses_blocks)
-        status = prepare_blocks(it, &p);
-    return status == UDA50_OK ? end_turn(it, &p.turn) : status;
+    if (status != UDA50_OK)
+        return status;
+    return uses_blocks(turn) ? end_with_blocks(it, turn) : end_turn(it, turn);
 }
 
-uint32_t uda50_machine_run(uda50 *handle, uint32_t turns, const uda50_machine *machine)
+/* Runs the turns in memory that is one array or that a map leads to. Returns UDA50_OTHER_KIND, and does nothing, if the
+   controller has a called image, or if the machine has no such memory. */
+static uint32_t run_at_once(uda50 *handle, uint32_t turns, const uda50_machine *m)
 {
+    if (m->memory == NULL)
+        return UDA50_OTHER_KIND;
+    return m->map == NULL ? uda50_run(handle, turns, m->memory, m->length)
+                          : uda50_run_mapped(handle, turns, m->memory, m->length, m->map);
+}
+
+/* Does the same with a word for SA. */
+static uint32_t write_at_once(uda50 *handle, uint16_t word, const uda50_machine *m)
+{
+    if (m->memory == NULL)
+        return UDA50_OTHER_KIND;
+    return m->map == NULL ? uda50_write_sa(handle, word, m->memory, m->length)
+                          : uda50_write_sa_mapped(handle, word, m->memory, m->length, m->map);
+}
+
+/* Runs the turns by single steps. */
+static uint32_t run_by_steps(uda50 *handle, uint32_t turns, const uda50_machine *machine)
+{
+    uda50_turn_use turn = {.size = sizeof turn, .controller = (uintptr_t)handle};
     view it;
-    uint32_t status;
+    uint32_t status = open_view(handle, machine, &it);
 
-    if (machine->size >= FIRST_MACHINE && machine->memory != NULL && !has_functions(machine))
-        return machine->map == NULL
-                   ? uda50_run(handle, turns, machine->memory, machine->length)
-                   : uda50_run_mapped(handle, turns, machine->memory, machine->length, machine->map);
-    if (!is_whole(machine))
-        return UDA50_BAD_MACHINE;
-    status = open_view(handle, machine, &it);
-    if (status == UDA50_OK)
-        status = uda50_run(handle, 0, it.bytes, it.length); /* or why no turn can be taken */
+    if (status == UDA50_OK && turns == 0)
+        status = uda50_get_descriptors(handle, it.bytes, it.length, &turn); /* or why no turn can be taken */
     for (; turns > 0 && status < UDA50_DEAD; turns--) {
-        status = take_turn(&it);
+        status = take_turn(&it, &turn);
         if (status == UDA50_IDLE)
             break;
     }
     return status;
+}
+
+uint32_t uda50_machine_run(uda50 *handle, uint32_t turns, const uda50_machine *machine)
+{
+    uint32_t status = is_whole(machine) ? run_at_once(handle, turns, machine) : UDA50_BAD_MACHINE;
+
+    return status == UDA50_OTHER_KIND ? run_by_steps(handle, turns, machine) : status;
 }
 
 uint32_t uda50_machine_turn(uda50 *handle, const uda50_machine *machine)
@@ -316,18 +335,13 @@ uint32_t uda50_machine_turn(uda50 *handle, const uda50_machine *machine)
     return uda50_machine_run(handle, 1, machine);
 }
 
-uint32_t uda50_machine_write_sa(uda50 *handle, uint16_t word, const uda50_machine *machine)
+static uint32_t write_by_steps(uda50 *handle, uint16_t word, const uda50_machine *machine)
 {
     view it;
     uda50_range area = {0, 0};
-    uint32_t status;
+    uint32_t status = open_view(handle, machine, &it);
     bool missing;
 
-    if (!is_whole(machine))
-        return UDA50_BAD_MACHINE;
-    if (machine->memory != NULL && machine->map != NULL)
-        return uda50_write_sa_mapped(handle, word, machine->memory, machine->length, machine->map);
-    status = open_view(handle, machine, &it);
     if (status == UDA50_OK)
         status = uda50_get_zeroed(handle, word, it.bytes, it.length, &area);
     if (status != UDA50_OK)
@@ -336,4 +350,11 @@ uint32_t uda50_machine_write_sa(uda50 *handle, uint16_t word, const uda50_machin
     status = uda50_write_sa_at(handle, word, it.bytes, it.length, missing, &area);
     store(&it, area);
     return status;
+}
+
+uint32_t uda50_machine_write_sa(uda50 *handle, uint16_t word, const uda50_machine *machine)
+{
+    uint32_t status = is_whole(machine) ? write_at_once(handle, word, machine) : UDA50_BAD_MACHINE;
+
+    return status == UDA50_OTHER_KIND ? write_by_steps(handle, word, machine) : status;
 }

@@ -22,7 +22,7 @@
 
    One call at a time uses a handle. A handle may go from one thread to another, if a lock or the start or end of a
    thread orders the calls. Threads may use different handles at once. No call blocks. Only uda50_new, uda50_new_as,
-   uda50_lend_blocks, uda50_format_last_turn and the turns and words over mapped memory allocate memory. */
+   uda50_turn_at, uda50_format_last_turn and the turns and words over mapped memory allocate memory. */
 #ifndef UDA50_H
 #define UDA50_H
 
@@ -65,9 +65,9 @@ enum {
     UDA50_NO_SUCH_UNIT = 66,     /* the unit isn't 0 to 3 */
     UDA50_ALREADY_ATTACHED = 67, /* the unit has an image */
     UDA50_NOT_ATTACHED = 68,     /* the unit has no image */
-    UDA50_BAD_LENGTH = 69,       /* an image isn't one or more whole blocks, guest memory or a bus has an odd length, a
-                                    saved state hasn't UDA50_STATE_LENGTH bytes, or bytes aren't those of whole blocks,
-                                    or go past their end */
+    UDA50_BAD_LENGTH = 69,       /* an image isn't one or more whole blocks, guest memory or a bus has an odd length, or a
+                                    saved state hasn't UDA50_STATE_LENGTH bytes. Or bytes aren't those of whole blocks,
+                                    or go past their end. Or the `size` of a struct is too small */
     UDA50_TOO_LARGE = 70,        /* an image has more than UDA50_MAX_BLOCKS blocks, or guest memory that is one array, or
                                     a bus, more than 4,194,304 bytes */
     UDA50_NOT_EMPTY = 71,        /* a struct that an image is to be put into isn't empty */
@@ -79,9 +79,10 @@ enum {
     UDA50_OTHER_IMAGES = 77,     /* the images aren't as many and as long as the saved ones, or not as protected */
     UDA50_BAD_FIRST_UNIT = 78,   /* first_unit is above 65,532: the last unit's would be above 65,535 */
     UDA50_BAD_MAP = 79,          /* `page` or `scale` of a map is above 31 */
-    UDA50_OTHER_KIND = 80,       /* the unit's image is in memory and the call needs a called one, or the reverse; or a use
-                                    of blocks is another one */
-    UDA50_NOWHERE = 81           /* an address leads nowhere; all others were copied */
+    UDA50_OTHER_KIND = 80,       /* the unit's image is in memory and the call needs a called one, or the reverse; or a unit
+                                    has a called image, and the call accepts none */
+    UDA50_NOWHERE = 81,          /* an address leads nowhere; all others were copied */
+    UDA50_STALE = 82             /* a step of a turn is of another controller, of an earlier turn, or out of order */
 };
 
 /* What a turn did. Each call that takes turns returns it. */
@@ -166,9 +167,9 @@ uint32_t uda50_free(uda50 *handle, uda50_image images[UDA50_UNITS]);
 /* ---- Drives ---- */
 
 /* Attaches an image to unit 0 to 3, also while the guest runs. Then the unit is available, and *image is empty. If
-   `write_protected` is set, no command changes the image. Call uda50_run afterwards: an attention message may be due.
-   Returns UDA50_OK, or the first that holds of UDA50_NO_CONTROLLER, UDA50_NO_SUCH_UNIT, UDA50_ALREADY_ATTACHED,
-   UDA50_BAD_LENGTH and UDA50_TOO_LARGE. */
+   `write_protected` is set, no command changes the image, until uda50_set_protected says otherwise. Call uda50_run
+   afterwards: an attention message may be due. Returns UDA50_OK, or the first that holds of UDA50_NO_CONTROLLER,
+   UDA50_NO_SUCH_UNIT, UDA50_ALREADY_ATTACHED, UDA50_BAD_LENGTH and UDA50_TOO_LARGE. */
 uint32_t uda50_attach(uda50 *handle, uint32_t unit, uda50_image *image, bool write_protected);
 
 /* Sets the drive type of a unit without an image: a number of UDA50_DRIVE_TYPES, at first UDA50_RA81. A compatible
@@ -176,6 +177,13 @@ uint32_t uda50_attach(uda50 *handle, uint32_t unit, uda50_image *image, bool wri
    of a unit is that of its image, whatever the type. Returns UDA50_OK, or the first that holds of UDA50_NO_CONTROLLER,
    UDA50_NO_SUCH_UNIT, UDA50_NO_SUCH_TYPE and UDA50_ALREADY_ATTACHED. */
 uint32_t uda50_set_type(uda50 *handle, uint32_t unit, uint32_t drive_type);
+
+/* Moves the write-protect button of a unit's drive while an image is attached. If `write_protected` is set, no command
+   changes the image from now on. An image whose drive type is read-only stays protected. Nothing else changes: the unit
+   stays online or available, and so do its software protection and an injected failure. The guest sees the button in the
+   unit flags of the next end message that has them. Returns UDA50_OK, or the first that holds of UDA50_NO_CONTROLLER,
+   UDA50_NO_SUCH_UNIT and UDA50_NOT_ATTACHED. */
+uint32_t uda50_set_protected(uda50 *handle, uint32_t unit, bool write_protected);
 
 /* Detaches a unit's image. *image, which must be empty, is then that image, as the commands left it. It stays empty if
    the image is a called one. Returns UDA50_OK, or the first that holds of UDA50_NO_CONTROLLER, UDA50_NO_SUCH_UNIT,
@@ -196,8 +204,10 @@ uint16_t uda50_read_ip(uda50 *handle);
 /* Writes SA for the guest: one step of the initialization. Step 3 sets the communication area in guest memory, which
    is the rings and the words before them, to zero. If the area isn't entirely within `length` bytes, the port fails
    with code 7, and memory is as it was. Any length is accepted, also an odd one. A running or dead port and
-   the poll test ignore the word. In wrap mode SA shows it. */
-void uda50_write_sa(uda50 *handle, uint16_t word, uint8_t *memory, size_t length);
+   the poll test ignore the word. In wrap mode SA shows it. Returns UDA50_OK, or the first that holds of
+   UDA50_NO_CONTROLLER and UDA50_OTHER_KIND. UDA50_OTHER_KIND is a controller that has a called image: write SA by
+   uda50_machine_write_sa there. */
+uint32_t uda50_write_sa(uda50 *handle, uint16_t word, uint8_t *memory, size_t length);
 
 /* Reads SA for the guest. Returns the word of the step; 0 in the purge and poll tests and while the port runs; the
    last word written in wrap mode; or bit 15 with the code of the fatal error. */
@@ -211,7 +221,9 @@ bool uda50_take_interrupt(uda50 *handle, uint16_t *vector);
 /* ---- Turns ---- */
 
 /* Runs one turn of the port: it fetches, executes or delivers one thing, or nothing. Returns UDA50_IDLE to UDA50_DEAD;
-   or the first that holds of UDA50_NO_CONTROLLER, UDA50_BAD_LENGTH and UDA50_TOO_LARGE. */
+   or the first that holds of UDA50_NO_CONTROLLER, UDA50_OTHER_KIND, UDA50_BAD_LENGTH and UDA50_TOO_LARGE.
+   UDA50_OTHER_KIND is a controller that has a called image. It takes its turns by uda50_machine_turn and
+   uda50_machine_run. */
 uint32_t uda50_turn(uda50 *handle, uint8_t *memory, size_t length);
 
 /* Runs up to `turns` turns, and stops after one of UDA50_IDLE or UDA50_DEAD. Returns what the last turn did, or
@@ -249,10 +261,11 @@ typedef struct {
     uint32_t in_memory;
 } uda50_map;
 
-/* These do what uda50_turn, uda50_run and uda50_write_sa do, in mapped memory, which may have any length. A turn first
-   reads from the bus what it may need: four descriptors, and a packet or a buffer. Then it writes the ranges that it may
-   have changed, in the order of a controller's writes, and the bytes of each by rising address. Of the rest of memory it
-   reads only registers that lie there.
+/* These do what uda50_run and uda50_write_sa do, in mapped memory, which may have any length. A turn first reads from the
+   bus what it needs: two descriptors of each ring at which it looks, and a packet or a buffer, but not that of a Read. Then
+   it writes the ranges that it has changed, in the order of a controller's writes, and the bytes of each by rising address.
+   Of the buffer of a Read that is as many bytes as its end message counts. Of the rest of memory it reads only registers
+   that lie there.
 
    An address that leads nowhere is as one past the end of memory. A command ends with status 0x0069 because of its
    buffer, unless an earlier check fails. These are fatal: a packet, the buffer of a message, the communication area,
@@ -260,10 +273,9 @@ typedef struct {
    interrupt indicator isn't written. Nothing else is affected.
 
    The first call, and one for a bus with another number of addresses, allocates a window of that many bytes. Each
-   returns the first that holds of UDA50_NO_CONTROLLER, UDA50_BAD_MAP, UDA50_TOO_LARGE, UDA50_BAD_LENGTH and
-   UDA50_NO_MEMORY. Otherwise uda50_turn_mapped and uda50_run_mapped return what uda50_turn and uda50_run do, and
-   uda50_write_sa_mapped returns UDA50_OK. */
-uint32_t uda50_turn_mapped(uda50 *handle, uint8_t *memory, size_t length, const uda50_map *map);
+   returns the first that holds of UDA50_NO_CONTROLLER, UDA50_OTHER_KIND, UDA50_BAD_MAP, UDA50_TOO_LARGE,
+   UDA50_BAD_LENGTH and UDA50_NO_MEMORY. UDA50_OTHER_KIND is a controller that has a called image. Otherwise
+   uda50_run_mapped returns what uda50_run does, and uda50_write_sa_mapped returns UDA50_OK. */
 uint32_t uda50_run_mapped(uda50 *handle, uint32_t turns, uint8_t *memory, size_t length, const uda50_map *map);
 uint32_t uda50_write_sa_mapped(uda50 *handle, uint16_t word, uint8_t *memory, size_t length, const uda50_map *map);
 
@@ -281,9 +293,9 @@ uint32_t uda50_write_mapped(uint8_t *memory, size_t length, const uda50_map *map
 /* ---- Called images ---- */
 
 /* A called image has a size and no bytes in memory: the emulator reads and writes its blocks by calls of its own. Such
-   images are overlays, compressed files, and files whose blocks may fail. A controller that has one takes its turns by
-   uda50_machine_turn and uda50_machine_run of uda50_machine.h, or by the single steps of uda50_steps.h. uda50_turn,
-   uda50_run and their mapped forms make no blocks ready: there a command fails at its first block that isn't. */
+   images are overlays, compressed files, and files whose blocks may fail. A controller that has one takes its turns and
+   its words for SA by the calls of uda50_machine.h, or by the single steps of uda50_steps.h. uda50_turn, uda50_run,
+   uda50_write_sa and their mapped forms return UDA50_OTHER_KIND. */
 
 /* Attaches a called image of this many blocks to unit 0 to 3. Otherwise it does what uda50_attach does. Returns UDA50_OK,
    or the first that holds of UDA50_NO_CONTROLLER, UDA50_NO_SUCH_UNIT, UDA50_ALREADY_ATTACHED, UDA50_BAD_LENGTH and
@@ -299,9 +311,14 @@ typedef struct {
     uint16_t next;  /* the index of the next one that the port will use */
 } uda50_ring;
 
+/* Three functions fill a struct whose first member says how large it is. Set it before the call: it stays as it is. If the
+   struct is smaller than the library's, the call returns UDA50_BAD_LENGTH. Of a larger one, as a later header may have
+   it, the library fills the members that it knows. */
+
 /* The state of a port. Until the initialization has set the rings, each is one descriptor at 0. In UDA50_PHASE_DEAD
    `pending`, `queued`, `polling` and `attentions` are left from before the fatal error, and mean no work. */
 typedef struct {
+    size_t size;          /* sizeof(uda50_state): later members go last */
     uint32_t phase;       /* UDA50_PHASE_STEP_1 to UDA50_PHASE_WRAP */
     uda50_ring responses;
     uda50_ring commands;
@@ -314,13 +331,15 @@ typedef struct {
     uint32_t attentions;  /* units for which an attention message is due: bit u for unit u */
 } uda50_state;
 
-/* Fills *state. Returns UDA50_OK; or UDA50_NO_CONTROLLER, and then *state is as it was. */
+/* Fills *state. Returns UDA50_OK; or the first that holds of UDA50_NO_CONTROLLER and UDA50_BAD_LENGTH, and then *state is
+   as it was. */
 uint32_t uda50_get_state(uda50 *handle, uda50_state *state);
 
 /* A record of what a turn did. A field that doesn't apply is 0: of UDA50_NOTIFIED all but the kind. The unit is 0 to 3
    for the controller's own, whatever their first number. Any other is the guest's number minus that of the first unit,
    modulo 65,536. */
 typedef struct {
+    size_t size;          /* sizeof(uda50_turn_record): later members go last */
     uint32_t kind;        /* UDA50_IDLE to UDA50_DEAD, or UDA50_INVALID_COMMAND to UDA50_ABORTED */
     uint32_t reference;   /* the command's reference number */
     uint32_t lbn;         /* the first block of a transfer that was fetched */
@@ -330,9 +349,25 @@ typedef struct {
     uint16_t status;      /* the status of an end message */
 } uda50_turn_record;
 
-/* Fills *turn with what the last turn did; after uda50_run that is the last of its turns. Returns UDA50_OK; or
-   UDA50_NO_CONTROLLER, and then *turn is as it was. */
+/* Fills *turn with what the last turn did; after uda50_run that is the last of its turns. Returns UDA50_OK; or the first
+   that holds of UDA50_NO_CONTROLLER and UDA50_BAD_LENGTH, and then *turn is as it was. */
 uint32_t uda50_get_last_turn(uda50 *handle, uda50_turn_record *turn);
+
+/* The state of a unit, for a display. Without an image all but the drive type is 0. */
+typedef struct {
+    size_t size;              /* sizeof(uda50_unit): later members go last */
+    uint32_t blocks;          /* how many blocks the image has */
+    uint32_t drive_type;      /* a number of UDA50_DRIVE_TYPES, as uda50_set_type or uda50_restore set it */
+    uint16_t attached;        /* 1 if the unit has an image, else 0 */
+    uint16_t called;          /* 1 if that is a called image, else 0 */
+    uint16_t online;          /* 1 while the guest has the unit online, 0 while it is available */
+    uint16_t write_protected; /* 1 if the image is write-protected, by the button or a read-only type, else 0 */
+    uint16_t soft_protected;  /* 1 while the guest has write-protected the unit by software, else 0 */
+} uda50_unit;
+
+/* Fills *info with the state of unit 0 to 3. Returns UDA50_OK; or the first that holds of UDA50_NO_CONTROLLER,
+   UDA50_NO_SUCH_UNIT and UDA50_BAD_LENGTH, and then *info is as it was. */
+uint32_t uda50_get_unit(uda50 *handle, uint32_t unit, uda50_unit *info);
 
 /* Writes what the last turn did as a line of text, such as "executed 3 Read unit 0 status 0x0000 bytes 512", with a 0
    after it. A line that is too long for the buffer is cut off; 96 bytes are enough for any. A buffer of length 0 gets

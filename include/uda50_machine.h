@@ -2,7 +2,7 @@
    through map registers, or whatever the emulator reaches by calls of its own. The images are in memory, or called ones,
    which the emulator reads and writes by calls of its own. Any memory goes with any images. docs/C.md has an example of each.
 
-   If all images are in memory, the turns of uda50.h over one array or over a map do the same. */
+   While a controller has no called image, these calls do what those of uda50.h do over one array or over a map. */
 #ifndef UDA50_MACHINE_H
 #define UDA50_MACHINE_H
 
@@ -38,14 +38,14 @@ typedef struct {
        takes a turn over it, or makes a call of the library with this handle.
 
    `window` has `addresses` bytes. Memory by calls needs one with as many bytes as the bus has addresses, an even number:
-   253,952 of a UNIBUS or 4,194,304 of a Q-bus. Memory through a map needs one with at least as many bytes for turns, if
-   `images` isn't null for each unit. What is in it before a call has no influence. Controllers may share a window, one
+   253,952 of a UNIBUS or 4,194,304 of a Q-bus. Memory through a map needs one with at least as many bytes while the
+   controller has a called image. What is in it before a call has no influence. Controllers may share a window, one
    after the other. During a call it is this controller's alone: otherwise a disk would get bytes of another controller,
    with status 0. If uda50_machine.c is compiled with UDA50_DEBUG, an assertion fails when what a turn has read into the
    window has changed.
 
    images[n] has the functions of unit n, if its image was attached by uda50_attach_called. Those of another unit aren't
-   called. If `images` is null for each unit, each block of a called image fails. */
+   called, and may be null. */
 typedef struct {
     size_t size; /* sizeof(uda50_machine): later members go last */
     uint8_t *memory;
@@ -67,20 +67,20 @@ enum {
     UDA50_NO_FUNCTIONS = 98 /* a turn needs a function of a called image that is null */
 };
 
-/* These do what uda50_turn, uda50_run and uda50_write_sa do. A turn first reads what it may need: four descriptors, and
-   a packet or a buffer. For a transfer of 0 bytes that is at most one byte, at its buffer's address. Then it writes the
-   ranges that it may have changed, in the order of a controller's writes. An address that leads nowhere is treated as by
-   the calls over mapped memory (uda50.h).
+/* These do what uda50_turn, uda50_run and uda50_write_sa do. A turn first reads what it may need: two descriptors of each
+   ring at which it looks, and a packet or a buffer. For a transfer of 0 bytes that is at most one byte, at its buffer's
+   address. Then it writes the ranges that it has changed, in the order of a controller's writes. Of the buffer of a Read
+   that is as many bytes as its end message counts. An address that leads nowhere is treated as by the calls over mapped
+   memory (uda50.h).
 
    Before a turn that executes a command they read or write the blocks that the command uses of a called image, in pieces of
    up to 32. A block that fails is a drive error: the command ends with status 0x000B and the byte count of the blocks
    before. No block after it is read or written. So each Write is written when its end message is made. These calls wait for
    the functions. An emulator with asynchronous I/O takes the single steps of uda50_steps.h.
 
-   Each returns the first that holds of UDA50_BAD_MACHINE, UDA50_NO_CONTROLLER, what uda50_turn_mapped returns for a `map`
-   that no bus has, UDA50_NO_WINDOW, and what uda50_turn returns for a length that no memory has. Then nothing has changed.
-   uda50_machine_write_sa returns UDA50_OK otherwise, or UDA50_NO_MEMORY. It accepts any length, and needs no window over a
-   map, since the library keeps one there.
+   Each returns the first that holds of UDA50_BAD_MACHINE, UDA50_NO_CONTROLLER, what uda50_run_mapped returns for a `map`
+   that no bus has, UDA50_NO_WINDOW, and what uda50_run returns for a length that no memory has. Then nothing has changed.
+   uda50_machine_write_sa returns UDA50_OK otherwise, or UDA50_NO_MEMORY. It accepts any length.
 
    Otherwise uda50_machine_turn and uda50_machine_run return what uda50_turn and uda50_run do. Or they return
    UDA50_NO_FUNCTIONS, or UDA50_NO_MEMORY if there is no memory for a window or for the blocks of a Read or a Compare Host

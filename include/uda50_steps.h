@@ -1,35 +1,46 @@
-/* uda50_steps.h: the single steps of a turn, for an emulator that does something between them, such as asynchronous I/O.
-   Others use uda50_machine.h, whose uda50_machine.c makes these calls in their order, or the turns of uda50.h.
+/* uda50_steps.h: the single steps of a turn, for an emulator that does something between them, such as asynchronous
+   I/O. Others use uda50_machine.h, whose uda50_machine.c makes these calls in their order, or the turns of uda50.h.
 
-   The emulator has a window with as many bytes as the bus has addresses. Memory that is one array is its own window. For a
-   turn it sets a uda50_turn_use to zero. Then:
-     1. it copies into the window the ranges of uda50_get_descriptors from the guest's memory, and sets the bits of `missing`
-        for the first and the third of them;
-     2. it copies the range of uda50_get_body, and sets that bit of `missing`;
-     3. it calls uda50_get_blocks, if an image is called. If `count` isn't 0, it goes through these blocks in rising order,
-        in pieces of any size. It ends at the first block that it can't read or write:
-          UDA50_READS: it reads them, and lends their bytes by uda50_lend_blocks.
-          UDA50_CHECKS: it reads them, drops their bytes, and calls uda50_allow_blocks.
-          UDA50_WRITES: it gets the bytes by uda50_get_written, writes them, and calls uda50_allow_blocks;
-     4. it calls uda50_turn_at with the struct of these calls;
-     5. it copies the written ranges to the guest's memory, in their order.
-   Of memory that is its own window only uda50_get_body, step 3 and uda50_turn_at are left, with `missing` = 0. A byte whose
-   address leads nowhere is 0 in the window. The rest of the window has no influence, and stays as it is. If step 4 isn't
-   taken, nothing has happened.
+   The emulator has a window with as many bytes as the bus has addresses. Memory that is one array is its own window. In
+   a uda50_turn_use it sets `size`, and `controller` to a number that none of its other controllers has, such as the
+   address of the handle. Then each turn is:
+     1. uda50_get_descriptors begins it. The emulator copies these ranges into the window from the guest's memory, and
+        sets the bits of `missing` for the first and the third of them.
+     2. uda50_get_body. The emulator copies that range if `reads_body` is 1, and sets that bit of `missing` in any case.
+        The buffer of a Read need not be copied: only its addresses must lead somewhere.
+     3. If `blocks.count` isn't 0 and the body isn't missing, the emulator moves these blocks in rising order, in pieces
+        of any size. It ends at the first block that it can't read or write. It sets `ready` to the number of those
+        before, and by `use`:
+          UDA50_READS: it reads the blocks, and sets `lent` to the bytes of those that it could read.
+          UDA50_CHECKS: it reads them, and drops their bytes.
+          UDA50_WRITES: it gets their bytes by uda50_get_written, and writes them.
+     4. uda50_turn_at takes the turn.
+     5. It copies the written ranges to the guest's memory, in their order.
+   Memory that is its own window needs no copies, and its `missing` stays 0. A byte whose address leads nowhere is 0 in
+   the window. The rest of the window has no influence. It stays as it is, except in the buffer of a Read that fails. If
+   step 4 isn't taken, nothing has happened.
 
-   For a word for SA it asks uda50_get_zeroed, tests the addresses of that range, calls uda50_write_sa_at, and copies out
-   the range that this fills in.
+   For a word for SA it asks uda50_get_zeroed, tests the addresses of that range, calls uda50_write_sa_at, and copies
+   out the range that this fills in.
+
+   A step is refused with UDA50_STALE, and nothing changes, if it is of another controller, of an earlier turn, or out
+   of order:
+     - The struct has another `controller` than the one with which this controller began a turn last.
+     - The controller was changed since the struct's turn began. These calls change it, also when they fail: turns,
+       writes and reads of IP, writes of SA, uda50_take_interrupt, uda50_attach, uda50_attach_called, uda50_detach,
+       uda50_set_type, uda50_set_protected, uda50_restore and uda50_inject_failure. uda50_turn_at does if it takes a turn.
+     - uda50_get_body doesn't come right after uda50_get_descriptors, or another step doesn't come after uda50_get_body.
+   Then begin the turn anew. A struct of another controller isn't noticed if both have the same number, and as many calls
+   have changed them.
 
    Between the first step of a turn and the last:
-     - The guest doesn't run, and no device writes to its memory. The last step writes the whole buffer of a Read, also of
-       one that fails. So what the guest stores there meanwhile would be lost.
+     - The guest doesn't run, and no device writes to its memory: the turn goes by what steps 1 and 2 have read. The last
+       step writes only what the turn has written. Of the buffer of a Read that fails it leaves the rest as it is.
      - No other controller uses the window.
-     - A reset may happen: uda50_write_ip. It drops the command. Then uda50_turn_at does nothing, tells no written bytes and
-       returns UDA50_IDLE, and it may be left out. uda50_get_written returns UDA50_BAD_LENGTH. Blocks that the emulator has
-       written stay written, and no end message tells of them. Blocks that it has lent or allowed for the command have no
-       effect on a later turn for which it calls uda50_get_blocks. After that call it neither lends nor allows blocks of the
-       dropped command: they would count for the new one.
-     - Nothing else changes the controller, except the calls here that make blocks ready. */
+     - A reset may happen: uda50_write_ip. It drops the command. Then the steps that are left return UDA50_STALE, and
+       may be left out. Blocks that the emulator has written stay written, and no end message tells of them. I/O of the
+       dropped command may end late: what it has read is dropped with the struct. No block is ready between two calls,
+       so it can't count for a later command. */
 #ifndef UDA50_STEPS_H
 #define UDA50_STEPS_H
 
@@ -54,44 +65,7 @@ enum {
     UDA50_MISSING_BODY = 4      /* the body */
 };
 
-/* What the next turn uses of the guest's memory. Only `missing` is the emulator's to set. */
-typedef struct {
-    uda50_range descriptors[4]; /* the next one of the command ring, the one before it; the same of the response ring */
-    uda50_range body;           /* the packet, or the buffer of a command or a message; at most one byte of it for a
-                                   transfer of 0 bytes */
-    uda50_range written[4];     /* what the turn may have changed, in the order of its writes */
-    uint32_t place;             /* the command that the turn executes, if it executes one, by its index */
-    uint32_t missing;
-} uda50_turn_use;
-
-/* Fills the descriptors of *turn. Of the window only the length matters. Returns UDA50_OK, or the first that holds of
-   UDA50_NO_CONTROLLER, UDA50_BAD_LENGTH and UDA50_TOO_LARGE. */
-uint32_t uda50_get_descriptors(uda50 *handle, const uint8_t *window, size_t length, uda50_turn_use *turn);
-
-/* Fills the body and the place of *turn. Returns as uda50_get_descriptors does. */
-uint32_t uda50_get_body(uda50 *handle, const uint8_t *window, size_t length, uda50_turn_use *turn);
-
-/* Runs one turn, and fills the written ranges of *turn. Returns as uda50_turn does. A missing address is treated
-   as by the calls over mapped memory. */
-uint32_t uda50_turn_at(uda50 *handle, uint8_t *window, size_t length, uda50_turn_use *turn);
-
-/* Fills *area with the range that the word sets to zero if it is written to SA. Returns UDA50_OK or
-   UDA50_NO_CONTROLLER. */
-uint32_t uda50_get_zeroed(uda50 *handle, uint16_t word, const uint8_t *window, size_t length, uda50_range *area);
-
-/* Writes SA for the guest, as uda50_write_sa does, and fills *area with the range that was set to zero in the window.
-   `missing` says that an address of the area leads nowhere. Returns UDA50_OK or UDA50_NO_CONTROLLER. */
-uint32_t uda50_write_sa_at(uda50 *handle, uint16_t word, uint8_t *window, size_t length, bool missing,
-                           uda50_range *area);
-
 /* ---- Blocks of called images ---- */
-
-/* The blocks that were lent or allowed are ready. At the first that isn't, the command fails: it ends with status 0x000B, a
-   drive error, and the byte count of the blocks before.
-
-   A Write is written before the turn that executes it, so its end message tells which blocks were written. An Access or
-   an Erase may have up to 8,388,608 blocks, and lends none. Each block is ready for one use: a turn uses up its blocks and
-   those before them, and uda50_get_blocks drops all that are ready of the unit whose blocks it tells. */
 
 /* How a turn uses blocks. */
 enum {
@@ -109,28 +83,67 @@ typedef struct {
     uint32_t count; /* how many blocks */
 } uda50_blocks;
 
-/* Fills *blocks with what the next turn uses of a called image, if it executes the command at `place` of *turn with
-   these bits of `missing`. From then on no block of that unit is ready. Returns UDA50_OK, or the first that holds of
-   UDA50_NO_CONTROLLER, UDA50_BAD_LENGTH and UDA50_TOO_LARGE. */
-uint32_t uda50_get_blocks(uda50 *handle, const uint8_t *window, size_t length, const uda50_turn_use *turn,
-                          uda50_blocks *blocks);
+/* ---- A turn ---- */
 
-/* Fills `to` with bytes that the turn will write, from block number `skip` of its range on. A partial last block is
-   padded with zeros, and an Erase writes only zeros. Returns UDA50_OK, or the first that holds of UDA50_NO_CONTROLLER,
-   UDA50_BAD_LENGTH, also if there aren't that many bytes, and UDA50_TOO_LARGE. */
+/* What the next turn uses. `size`, `controller`, `missing`, `ready` and `lent` are the emulator's to set. */
+typedef struct {
+    size_t size;                /* sizeof(uda50_turn_use): later members go last */
+    uint64_t controller;        /* a number of its own for each controller, such as the address of its handle */
+    uint64_t count;             /* the library's: how many calls had changed the controller when the turn began */
+    uint32_t step;              /* the library's: the step that was done last */
+    uda50_range descriptors[4]; /* the next one of the command ring, the one before it; the same of the response ring;
+                                   empty for a ring at which the turn doesn't look */
+    uda50_range body;           /* the packet, or the buffer of a command or a message; at most one byte of it for a
+                                   transfer of 0 bytes */
+    uda50_range written[4];     /* what the turn has written, in the order of its writes: of the buffer of a Read the bytes
+                                   that its end message counts */
+    uint32_t place;             /* the command that the turn executes, if it executes one, by its index */
+    uint32_t missing;
+    uint32_t reads_body;        /* 1 if the turn reads the body; 0 if its addresses need only lead somewhere */
+    uda50_blocks blocks;        /* the blocks that the turn uses of a called image, unless the body is missing */
+    uint32_t ready;             /* how many of these, from the first on, the emulator has moved */
+    uda50_image lent;           /* the bytes of those blocks, for UDA50_READS */
+} uda50_turn_use;
+
+/* Begins a turn: fills the descriptors of *turn, and sets all else to 0 but `size` and `controller`. Of the window only
+   the length matters. Returns UDA50_OK, or the first that holds of UDA50_NO_CONTROLLER, UDA50_BAD_LENGTH, also for a
+   `size` that is too small, and UDA50_TOO_LARGE. */
+uint32_t uda50_get_descriptors(uda50 *handle, const uint8_t *window, size_t length, uda50_turn_use *turn);
+
+/* Fills the body, the place and the blocks of *turn. Returns UDA50_OK, or the first that holds of UDA50_NO_CONTROLLER,
+   UDA50_STALE, UDA50_BAD_LENGTH, also for a `size` that is too small, and UDA50_TOO_LARGE. */
+uint32_t uda50_get_body(uda50 *handle, const uint8_t *window, size_t length, uda50_turn_use *turn);
+
+/* Fills `to` with bytes that the turn will write, from block number `skip` of its blocks on. A partial last block is
+   padded with zeros, and an Erase writes only zeros. Returns as uda50_get_body does, and UDA50_BAD_LENGTH also if there
+   aren't that many bytes. */
 uint32_t uda50_get_written(uda50 *handle, const uint8_t *window, size_t length, const uda50_turn_use *turn,
                            uint32_t skip, uint8_t *to, size_t bytes);
 
-/* Lends the bytes of blocks from block `first` on, which is the one after those that were lent since uda50_get_blocks, or
-   the first of its range. The library copies them. Returns UDA50_OK, or the first that holds of UDA50_NO_CONTROLLER,
-   UDA50_NO_SUCH_UNIT, UDA50_NOT_ATTACHED, UDA50_OTHER_KIND, UDA50_BAD_LENGTH and UDA50_NO_MEMORY. UDA50_BAD_LENGTH is
-   another first block, or a length that isn't whole blocks or goes past the end of the image. */
-uint32_t uda50_lend_blocks(uda50 *handle, uint32_t unit, uint32_t first, const uint8_t *from, size_t length);
+/* Runs one turn, and fills the written ranges of *turn. The first `ready` blocks are ready for this turn only. At the
+   first that isn't, the command fails: it ends with status 0x000B, a drive error, and the byte count of the blocks
+   before. A missing address is treated as by the calls over mapped memory.
 
-/* Says that the next `count` blocks can be read, if `use` is UDA50_CHECKS, or are written, if it is UDA50_WRITES. Returns
-   UDA50_OK, or the first that holds of UDA50_NO_CONTROLLER, UDA50_NO_SUCH_UNIT, UDA50_NOT_ATTACHED, UDA50_OTHER_KIND,
-   also of another use, and UDA50_BAD_LENGTH, if they go past the end of the image. */
-uint32_t uda50_allow_blocks(uda50 *handle, uint32_t unit, uint32_t use, uint32_t count);
+   The bytes of `lent` are the library's during the call, as those of an image. A turn without blocks, and one that
+   doesn't read them, ignores `lent`. A Write is written before this call, so its end message tells which blocks were
+   written.
+
+   Returns what uda50_turn does, or the first that holds of UDA50_NO_CONTROLLER, UDA50_STALE, UDA50_BAD_LENGTH, also for
+   a `size` that is too small, and UDA50_TOO_LARGE. Then UDA50_BAD_LENGTH if `ready` is above `blocks.count`, or `lent`
+   hasn't 512 bytes for each ready block that the turn reads; or UDA50_NO_MEMORY if the library can't copy them. Then
+   the turn isn't taken, nothing has changed, and the call may be repeated. */
+uint32_t uda50_turn_at(uda50 *handle, uint8_t *window, size_t length, uda50_turn_use *turn);
+
+/* ---- Words for SA ---- */
+
+/* Fills *area with the range that the word sets to zero if it is written to SA. Returns UDA50_OK or
+   UDA50_NO_CONTROLLER. */
+uint32_t uda50_get_zeroed(uda50 *handle, uint16_t word, const uint8_t *window, size_t length, uda50_range *area);
+
+/* Writes SA for the guest, as uda50_write_sa does, and fills *area with the range that was set to zero in the window.
+   `missing` says that an address of the area leads nowhere. Returns UDA50_OK or UDA50_NO_CONTROLLER. */
+uint32_t uda50_write_sa_at(uda50 *handle, uint16_t word, uint8_t *window, size_t length, bool missing,
+                           uda50_range *area);
 
 #ifdef __cplusplus
 }

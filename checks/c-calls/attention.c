@@ -44,7 +44,7 @@ static uint32_t turn_by_calls(void)
 
 static uint32_t turn_of_mapped(void)
 {
-    return uda50_turn_mapped(&uda, memory, SIZE, &map);
+    return uda50_run_mapped(&uda, 1, memory, SIZE, &map);
 }
 
 static uint32_t (*take_turn)(void);

@@ -1,6 +1,6 @@
 /* blocks.c: turns with called images, compared with those of a controller with the same images in memory.
-   First each command with each of its blocks failing; what must write nothing; blocks that aren't ready; large commands,
-   and missing memory. Then random guests of both profiles, with memory that is one array, by calls or mapped.
+   First each command with each of its blocks failing; what must write nothing; blocks that aren't ready; large
+   commands, and missing memory. Then random guests of both profiles, with memory that is one array, by calls or mapped.
    Any block may fail. Both controllers must do the same. What the calls moved must be what the end messages
    say.
    Usage: blocks [GUESTS [ROUNDS]] */
@@ -232,7 +232,7 @@ static void write_sa(machine *it, uint16_t word)
     if (it == &called || it->way == CALLS || any(2) == 0)
         EXPECT(uda50_machine_write_sa(&it->uda, word, &it->reached), UDA50_OK);
     else if (it->way == ARRAY)
-        uda50_write_sa(&it->uda, word, it->physical, MEMORY);
+        EXPECT(uda50_write_sa(&it->uda, word, it->physical, MEMORY), UDA50_OK);
     else
         EXPECT(uda50_write_sa_mapped(&it->uda, word, it->physical, PHYSICAL, &it->map), UDA50_OK);
 }
@@ -241,7 +241,7 @@ static uint32_t plain_turn(machine *it)
 {
     return it->way == CALLS || any(2) == 0 ? uda50_machine_turn(&it->uda, &it->reached)
            : it->way == ARRAY              ? uda50_turn(&it->uda, it->physical, MEMORY)
-                                           : uda50_turn_mapped(&it->uda, it->physical, PHYSICAL, &it->map);
+                                           : uda50_run_mapped(&it->uda, 1, it->physical, PHYSICAL, &it->map);
 }
 
 /* A turn of the controller with images in memory. Of a unit whose other image is a called one the same block
@@ -262,7 +262,7 @@ static uint32_t held_turn(void)
 static void expect_told(uint32_t result)
 {
     uint32_t count = moved.end - moved.first;
-    uda50_turn_record told;
+    uda50_turn_record told = { .size = sizeof told };
 
     EXPECT(uda50_get_last_turn(&called.uda, &told), UDA50_OK);
     if (result != UDA50_EXECUTED || moved.calls == 0) {
@@ -518,6 +518,26 @@ static void aborted_write(void)
 
 /* ---- The calls below ---- */
 
+/* Takes a turn that makes no block ready, in memory that is its own window. */
+static uint32_t bare_turn(void)
+{
+    uda50_turn_use use = { .size = sizeof use, .controller = 1 };
+
+    EXPECT(uda50_get_descriptors(&called.uda, called.physical, MEMORY, &use), UDA50_OK);
+    EXPECT(uda50_get_body(&called.uda, called.physical, MEMORY, &use), UDA50_OK);
+    return uda50_turn_at(&called.uda, called.physical, MEMORY, &use);
+}
+
+/* Takes such turns until one does nothing. */
+static void bare_run(void)
+{
+    uint32_t turns = 0;
+
+    while (turns++ < TURNS && bare_turn() != UDA50_IDLE)
+        ;
+    EXPECT(turns <= TURNS, true);
+}
+
 /* Posts a Read of unit 0 and takes turns until it is pending, with the whole window in memory. */
 static void make_pending(uint8_t opcode, uint32_t bytes)
 {
@@ -525,29 +545,31 @@ static void make_pending(uint8_t opcode, uint32_t bytes)
     give_response(posted++ % RESPONSES);
     show();
     EXPECT(uda50_read_ip(&called.uda), 0);
-    EXPECT(uda50_turn(&called.uda, called.physical, MEMORY), UDA50_FETCHED);
+    EXPECT(bare_turn(), UDA50_FETCHED);
 }
 
+/* Takes the steps of a turn up to its blocks. */
 static uda50_blocks ask(uda50_turn_use *use)
 {
-    uda50_blocks blocks = { 9, 9, 9, 9 };
-
-    memset(use, 0, sizeof *use);
+    memset(use, 0x99, sizeof *use);
+    use->size = sizeof *use;
+    use->controller = 1;
+    use->lent = (uda50_image){ NULL, 0 };
     EXPECT(uda50_get_descriptors(&called.uda, called.physical, MEMORY, use), UDA50_OK);
+    EXPECT(use->blocks.use == 0 && use->ready == 0 && use->missing == 0, true);
     EXPECT(uda50_get_body(&called.uda, called.physical, MEMORY, use), UDA50_OK);
-    EXPECT(uda50_get_blocks(&called.uda, called.physical, MEMORY, use, &blocks), UDA50_OK);
-    return blocks;
+    return use->blocks;
 }
 
 /* Ends the pending command, delivers its end message, and returns its byte count. */
 static uint32_t bytes_after(uint32_t status)
 {
-    uda50_turn_record told;
+    uda50_turn_record told = { .size = sizeof told };
 
-    EXPECT(uda50_turn(&called.uda, called.physical, MEMORY), UDA50_EXECUTED);
+    EXPECT(bare_turn(), UDA50_EXECUTED);
     EXPECT(uda50_get_last_turn(&called.uda, &told), UDA50_OK);
     EXPECT(told.status, status);
-    EXPECT(uda50_run(&called.uda, TURNS, called.physical, MEMORY), UDA50_IDLE);
+    bare_run();
     see();
     return told.bytes;
 }
@@ -568,47 +590,59 @@ static void not_ready(void)
         make_pending(opcodes[n], 3 * BLOCK);
         EXPECT(bytes_after(DRIVE_ERROR), 0);
         make_pending(opcodes[n], 3 * BLOCK);
-        EXPECT(uda50_run(&called.uda, TURNS, called.physical, MEMORY), UDA50_IDLE);
+        bare_run();
         see();
         EXPECT(get16(response_at((posted - 1) % RESPONSES) + 10), DRIVE_ERROR);
     }
 }
 
-/* Makes the two blocks of the pending command ready in the way of its opcode. */
-static void make_ready(uint8_t opcode)
+/* Takes the turn of these steps, which executes the command. Returns the byte count of the end message, and delivers
+   that. */
+static uint32_t bytes_of(uda50_turn_use *use, uint32_t ready, uint32_t status)
 {
-    static uint8_t bytes[2 * BLOCK];
-    uda50_turn_use use;
-    uda50_blocks blocks = ask(&use);
+    uda50_turn_record told = { .size = sizeof told };
 
-    EXPECT(blocks.count, 2);
-    memcpy(bytes, memory + BUFFER, sizeof bytes);
-    if (opcode == READ || opcode == COMPARE)
-        EXPECT(uda50_lend_blocks(&called.uda, 0, 5, bytes, sizeof bytes), UDA50_OK);
-    else
-        EXPECT(uda50_allow_blocks(&called.uda, 0, blocks.use, 2), UDA50_OK);
+    use->ready = ready;
+    EXPECT(uda50_turn_at(&called.uda, called.physical, MEMORY, use), UDA50_EXECUTED);
+    EXPECT(uda50_get_last_turn(&called.uda, &told), UDA50_OK);
+    EXPECT(told.status, status);
+    EXPECT(uda50_machine_run(&called.uda, TURNS, &called.reached), UDA50_IDLE);
+    see();
+    return told.bytes;
 }
 
-/* Blocks are ready for one command: the next one without the steps fails at its first block. */
+static bool reads_bytes(uint8_t opcode)
+{
+    return opcode == READ || opcode == COMPARE;
+}
+
+/* Blocks are ready for one turn: the next one finds none, also if it has fewer blocks. Each number of them can be
+   ready. */
 static void ready_once(void)
 {
     static const uint8_t opcodes[] = { READ, WRITE, ERASE, ACCESS, COMPARE };
+    static uint8_t bytes[3 * BLOCK];
+    uda50_turn_use use;
 
     for (uint32_t n = 0; n < sizeof opcodes; n++) {
         begin(ARRAY);
         fill();
-        make_pending(opcodes[n], 2 * BLOCK);
-        make_ready(opcodes[n]);
-        EXPECT(bytes_after(0), 2 * BLOCK);
-        make_pending(opcodes[n], 2 * BLOCK);
-        EXPECT(bytes_after(DRIVE_ERROR), 0);
-        make_pending(opcodes[n], BLOCK);
-        EXPECT(bytes_after(DRIVE_ERROR), 0);
+        for (uint32_t ready = 0; ready <= 3; ready++) {
+            make_pending(opcodes[n], 3 * BLOCK);
+            EXPECT(ask(&use).count, 3);
+            memcpy(bytes, memory + BUFFER, sizeof bytes);
+            use.lent = (uda50_image){ bytes, reads_bytes(opcodes[n]) ? ready * BLOCK : 7 };
+            EXPECT(bytes_of(&use, ready, ready == 3 ? 0 : DRIVE_ERROR), ready * BLOCK);
+            EXPECT(use.lent.at == bytes && use.lent.length == (reads_bytes(opcodes[n]) ? ready * BLOCK : 7), true);
+            make_pending(opcodes[n], 2 * BLOCK);
+            EXPECT(ask(&use).count, 2);
+            EXPECT(bytes_of(&use, 0, DRIVE_ERROR), 0);
+        }
     }
 }
 
-/* Blocks are lent in pieces of any size. Those that were lent before the last uda50_get_blocks aren't ready. */
-static void lent_in_pieces(void)
+/* A Read gets the bytes that were lent for this turn. Those of a turn that wasn't taken have no effect. */
+static void lent_bytes(void)
 {
     static uint8_t bytes[8 * BLOCK];
     uda50_turn_use use;
@@ -620,17 +654,16 @@ static void lent_in_pieces(void)
         bytes[n] = (uint8_t)any(256);
     make_pending(READ, 8 * BLOCK);
     EXPECT(are(ask(&use), UDA50_READS, 8), true);
-    EXPECT(uda50_lend_blocks(&called.uda, 0, 5, bytes + BLOCK, 2 * BLOCK), UDA50_OK);
+    use.lent = (uda50_image){ bytes + BLOCK, 2 * BLOCK };
+    use.ready = 2;
     EXPECT(are(ask(&use), UDA50_READS, 8), true);
-    EXPECT(uda50_lend_blocks(&called.uda, 0, 5, bytes, 3 * BLOCK), UDA50_OK);
-    EXPECT(uda50_lend_blocks(&called.uda, 0, 8, bytes + 3 * BLOCK, BLOCK), UDA50_OK);
-    EXPECT(uda50_lend_blocks(&called.uda, 0, 9, bytes + 4 * BLOCK, 2 * BLOCK), UDA50_OK);
-    EXPECT(bytes_after(DRIVE_ERROR), 6 * BLOCK);
+    EXPECT(use.ready == 0 && use.lent.at == NULL && use.lent.length == 0, true);
+    use.lent = (uda50_image){ bytes, 6 * BLOCK };
+    EXPECT(bytes_of(&use, 6, DRIVE_ERROR), 6 * BLOCK);
     EXPECT(memcmp(memory + BUFFER, bytes, 6 * BLOCK), 0);
     EXPECT(memcmp(memory + BUFFER + 6 * BLOCK, bytes + 6 * BLOCK, BLOCK) != 0, true);
-    make_pending(READ, BLOCK); /* lent and then forgotten by the emulator: uda50_machine_turn begins again */
+    make_pending(READ, BLOCK); /* uda50_machine_turn begins again */
     EXPECT(are(ask(&use), UDA50_READS, 1), true);
-    EXPECT(uda50_lend_blocks(&called.uda, 0, 5, bytes, BLOCK), UDA50_OK);
     EXPECT(called_turn(), UDA50_EXECUTED);
     see();
     EXPECT(memcmp(memory + BUFFER, called.disks[0] + 5 * BLOCK, BLOCK), 0);
@@ -654,20 +687,57 @@ static void told_bytes(void)
     EXPECT(uda50_get_written(&called.uda, called.physical, MEMORY, &use, 2, bytes, 2 * BLOCK), UDA50_BAD_LENGTH);
     EXPECT(uda50_get_written(&called.uda, called.physical, MEMORY, &use, 4, bytes, BLOCK), UDA50_BAD_LENGTH);
     EXPECT(memcmp(bytes, memory + BUFFER + BLOCK, BLOCK), 0);
-    EXPECT(uda50_allow_blocks(&called.uda, 0, UDA50_WRITES, 2), UDA50_OK);
-    EXPECT(bytes_after(DRIVE_ERROR), 2 * BLOCK);
+    EXPECT(bytes_of(&use, 2, DRIVE_ERROR), 2 * BLOCK);
     make_pending(ERASE, 2 * BLOCK);
     EXPECT(are(ask(&use), UDA50_WRITES, 2), true);
     EXPECT(uda50_get_written(&called.uda, called.physical, MEMORY, &use, 1, bytes, BLOCK), UDA50_OK);
     EXPECT(memcmp(bytes, zeros, BLOCK), 0);
-    EXPECT(uda50_allow_blocks(&called.uda, 0, UDA50_WRITES, 2), UDA50_OK);
-    EXPECT(bytes_after(0), 2 * BLOCK);
+    EXPECT(bytes_of(&use, 2, 0), 2 * BLOCK);
     make_pending(ACCESS, 3 * BLOCK);
     EXPECT(are(ask(&use), UDA50_CHECKS, 3), true);
     EXPECT(uda50_get_written(&called.uda, called.physical, MEMORY, &use, 0, bytes, BLOCK), UDA50_BAD_LENGTH);
-    EXPECT(uda50_allow_blocks(&called.uda, 0, UDA50_CHECKS, 1), UDA50_OK);
-    EXPECT(uda50_allow_blocks(&called.uda, 0, UDA50_CHECKS, 2), UDA50_OK);
-    EXPECT(bytes_after(0), 3 * BLOCK);
+    EXPECT(bytes_of(&use, 3, 0), 3 * BLOCK);
+}
+
+/* What uda50_turn_at refuses. It changes nothing, so the call is repeated with what is right. */
+static void refused_blocks(void)
+{
+    static uint8_t before[UDA50_STATE_LENGTH], after[UDA50_STATE_LENGTH], bytes[4 * BLOCK];
+    uda50_turn_use use;
+
+    detach(&called, 0); /* with the memory that it had */
+    attach(&called, 0);
+    begin(ARRAY);
+    fill();
+    make_pending(READ, 3 * BLOCK);
+    EXPECT(are(ask(&use), UDA50_READS, 3), true);
+    EXPECT(uda50_save(&called.uda, before, sizeof before), UDA50_OK);
+    for (uint32_t n = 0; n < 6; n++) {
+        static const size_t lengths[] = { 4 * BLOCK, 3 * BLOCK - 1, 2 * BLOCK, 0, 3 * BLOCK + 1, 3 * BLOCK };
+
+        use.ready = n == 0 ? 4 : 3;
+        use.lent = (uda50_image){ bytes, lengths[n] };
+        allocations = 0;
+        allowed = n == 5 ? 0 : UINT32_MAX;
+        EXPECT(uda50_turn_at(&called.uda, called.physical, MEMORY, &use), n == 5 ? UDA50_NO_MEMORY : UDA50_BAD_LENGTH);
+        EXPECT(use.lent.at == bytes && use.lent.length == lengths[n], true);
+    }
+    allowed = UINT32_MAX;
+    EXPECT(uda50_turn_at(&called.uda, called.physical, MEMORY - 1, &use), UDA50_BAD_LENGTH);
+    EXPECT(uda50_save(&called.uda, after, sizeof after), UDA50_OK);
+    EXPECT(memcmp(before, after, sizeof before), 0);
+    EXPECT(bytes_of(&use, 3, 0), 3 * BLOCK);
+    EXPECT(memcmp(memory + BUFFER, bytes, 3 * BLOCK), 0);
+    make_pending(WRITE, 3 * BLOCK);
+    ask(&use);
+    use.ready = 4;
+    EXPECT(uda50_turn_at(&called.uda, called.physical, MEMORY, &use), UDA50_BAD_LENGTH);
+    EXPECT(bytes_of(&use, 3, 0), 3 * BLOCK);
+    ask(&use); /* a turn without blocks */
+    use.ready = 1;
+    EXPECT(uda50_turn_at(&called.uda, called.physical, MEMORY, &use), UDA50_BAD_LENGTH);
+    use.ready = 0;
+    EXPECT(uda50_turn_at(&called.uda, called.physical, MEMORY, &use), UDA50_IDLE);
 }
 
 /* A run ends after the first turn that does nothing, and after as many turns as it gets. */
@@ -689,7 +759,7 @@ static void ended_runs(void)
 /* A run goes on after an attention message. */
 static void run_after_attention(void)
 {
-    uda50_state state;
+    uda50_state state = { .size = sizeof state };
 
     begin(CALLS);
     post(posted % COMMANDS, (command){ SET_CONTROLLER, 0, 1, 0x800000, 0 }); /* it asks for attention messages */
@@ -734,18 +804,7 @@ static void statuses_of_images(void)
     EXPECT(uda50_attach_called(uda, 1, (uint64_t)1 << 32, false), UDA50_TOO_LARGE);
     EXPECT(uda50_attach_called(uda, 1, UINT64_MAX, false), UDA50_TOO_LARGE);
     EXPECT(uda50_detach(uda, 1, &empty), UDA50_NOT_ATTACHED);
-    EXPECT(uda50_lend_blocks(uda, 1, 0, block, BLOCK), UDA50_NOT_ATTACHED);
-    EXPECT(uda50_allow_blocks(uda, 1, UDA50_CHECKS, 1), UDA50_NOT_ATTACHED);
     EXPECT(uda50_attach_called(uda, 1, sizes[1], false), UDA50_OK);
-    EXPECT(uda50_lend_blocks(&none, 4, 0, block, 1), UDA50_NO_CONTROLLER);
-    EXPECT(uda50_lend_blocks(uda, 4, 0, block, 1), UDA50_NO_SUCH_UNIT);
-    EXPECT(uda50_lend_blocks(uda, 3, 0, block, 1), UDA50_OTHER_KIND);
-    EXPECT(uda50_lend_blocks(uda, 0, 0, block, BLOCK - 1), UDA50_BAD_LENGTH);
-    EXPECT(uda50_allow_blocks(&none, 4, 9, 1), UDA50_NO_CONTROLLER);
-    EXPECT(uda50_allow_blocks(uda, 4, 9, 1), UDA50_NO_SUCH_UNIT);
-    EXPECT(uda50_allow_blocks(uda, 3, UDA50_CHECKS, 1), UDA50_OTHER_KIND);
-    EXPECT(uda50_allow_blocks(uda, 0, UDA50_READS, 1), UDA50_OTHER_KIND);
-    EXPECT(uda50_allow_blocks(uda, 0, UDA50_NO_BLOCKS, 1), UDA50_OTHER_KIND);
 }
 
 static void statuses_of_turns(void)
@@ -753,7 +812,6 @@ static void statuses_of_turns(void)
     static uint8_t bytes[BLOCK];
     static uda50 none;
     uda50 *uda = &called.uda;
-    uda50_blocks blocks = { 9, 9, 9, 9 }, before = blocks;
     uda50_machine odd, large;
     uda50_turn_use use;
 
@@ -763,9 +821,6 @@ static void statuses_of_turns(void)
     large.length = (4 << 20) + 2;
     make_pending(WRITE, BLOCK);
     EXPECT(are(ask(&use), UDA50_WRITES, 1), true);
-    EXPECT(uda50_get_blocks(&none, called.physical, 1, &use, &blocks), UDA50_NO_CONTROLLER);
-    EXPECT(uda50_get_blocks(uda, called.physical, MEMORY - 1, &use, &blocks), UDA50_BAD_LENGTH);
-    EXPECT(memcmp(&blocks, &before, sizeof blocks), 0);
     EXPECT(uda50_get_written(&none, called.physical, 1, &use, 0, bytes, BLOCK), UDA50_NO_CONTROLLER);
     EXPECT(uda50_get_written(uda, called.physical, MEMORY - 1, &use, 0, bytes, BLOCK), UDA50_BAD_LENGTH);
     EXPECT(uda50_machine_turn(&none, &odd), UDA50_NO_CONTROLLER);
@@ -838,17 +893,17 @@ static void refused_machines(void)
         it = called.reached;
         it.window = NULL;
         if (way != ARRAY)
-            refused(&it, UDA50_NO_WINDOW, way == CALLS ? UDA50_NO_WINDOW : UDA50_OK);
+            refused(&it, UDA50_NO_WINDOW, UDA50_NO_WINDOW);
         it = called.reached;
         it.addresses = MEMORY - 2;
         if (way == MAPPED)
-            refused(&it, UDA50_NO_WINDOW, UDA50_OK);
+            refused(&it, UDA50_NO_WINDOW, UDA50_NO_WINDOW);
         it.addresses = MEMORY - 1;
         if (way == CALLS)
             refused(&it, UDA50_BAD_LENGTH, UDA50_OK);
         it.addresses = 0;
         if (way != ARRAY)
-            refused(&it, UDA50_NO_WINDOW, way == CALLS ? UDA50_NO_WINDOW : UDA50_OK);
+            refused(&it, UDA50_NO_WINDOW, UDA50_NO_WINDOW);
         map = called.map;
         map.page = 32;
         it = called.reached;
@@ -867,11 +922,11 @@ static void refused_machines(void)
     }
 }
 
-/* A function that is missing ends a run before the turn that needs it. A machine without functions has no blocks. */
+/* A function that is missing ends a run before the turn that needs it, also if all are missing. */
 static void missing_functions(void)
 {
     uda50_machine it;
-    uda50_state state;
+    uda50_state state = { .size = sizeof state };
 
     for (int way = 0; way < WAYS; way++) {
         begin(way);
@@ -883,19 +938,85 @@ static void missing_functions(void)
             show();
             uda50_read_ip(&called.uda);
             memset(&moved, 0, sizeof moved);
-            EXPECT(uda50_machine_run(&called.uda, TURNS, &it), n == 0 ? UDA50_NO_FUNCTIONS : UDA50_IDLE);
+            EXPECT(uda50_machine_run(&called.uda, TURNS, &it), UDA50_NO_FUNCTIONS);
             EXPECT(uda50_get_state(&called.uda, &state), UDA50_OK);
-            EXPECT(state.pending, n == 0);
+            EXPECT(state.pending, 1);
             EXPECT(moved.calls, 0);
+            EXPECT(uda50_machine_run(&called.uda, TURNS, &called.reached), UDA50_IDLE);
+            EXPECT(moved.end - moved.first, 2);
             see();
-            if (n == 0) {
-                EXPECT(uda50_machine_run(&called.uda, TURNS, &called.reached), UDA50_IDLE);
-                EXPECT(moved.end - moved.first, 2);
-                it.images[1] = it.images[2] = NULL;
-            } else
-                EXPECT(get16(response_at((posted - 1) % RESPONSES) + 10), DRIVE_ERROR);
+            EXPECT(get16(response_at((posted - 1) % RESPONSES) + 10), 0);
+            it.images[1] = it.images[2] = NULL;
         }
     }
+}
+
+/* What the calls that make no blocks ready return, and that nothing has changed if they refuse. */
+static void expect_plain(uint32_t wanted, size_t length, const uda50_map *map)
+{
+    static uint8_t before[UDA50_STATE_LENGTH], after[UDA50_STATE_LENGTH], bytes[PHYSICAL];
+    uda50 *uda = &called.uda;
+
+    memcpy(bytes, called.physical, PHYSICAL);
+    EXPECT(uda50_save(uda, before, sizeof before), UDA50_OK);
+    EXPECT(uda50_write_sa(uda, 0x8000, called.physical, length), wanted);
+    EXPECT(uda50_write_sa_mapped(uda, 0x8000, called.physical, PHYSICAL, map), wanted);
+    EXPECT(uda50_turn(uda, called.physical, length), wanted);
+    EXPECT(uda50_run(uda, 1, called.physical, length), wanted);
+    EXPECT(uda50_run(uda, 0, called.physical, length), wanted);
+    EXPECT(uda50_run_mapped(uda, 1, called.physical, PHYSICAL, map), wanted);
+    EXPECT(uda50_run_mapped(uda, 0, called.physical, PHYSICAL, map), wanted);
+    EXPECT(uda50_save(uda, after, sizeof after), UDA50_OK);
+    EXPECT(memcmp(before, after, sizeof before) == 0, wanted != UDA50_OK);
+    EXPECT(memcmp(bytes, called.physical, PHYSICAL), 0);
+}
+
+/* The turns and the words for SA of uda50.h refuse a controller that has a called image, before they judge memory or a map. */
+static void refused_calls(void)
+{
+    static uint8_t block[BLOCK], state[UDA50_STATE_LENGTH];
+    uda50_image image = { block, BLOCK };
+    uda50_called partial = images[0];
+    uda50_machine reached;
+    uda50_map none;
+
+    reach(&called, MAPPED);
+    none = called.map;
+    none.page = 32;
+    uda50_write_ip(&called.uda, 0);
+    expect_plain(UDA50_OTHER_KIND, 1, &none);
+    expect_plain(UDA50_OTHER_KIND, MEMORY, &called.map);
+    EXPECT(uda50_save(&called.uda, state, sizeof state), UDA50_OK);
+    EXPECT(uda50_restore(&called.uda, state, sizeof state), UDA50_OK);
+    for (uint32_t unit = 0; unit < 3; unit++) {
+        expect_plain(UDA50_OTHER_KIND, MEMORY, &called.map);
+        detach(&called, unit);
+    }
+    expect_plain(UDA50_OK, MEMORY, &called.map);
+    reached = called.reached; /* with functions that nothing needs */
+    reached.window = NULL;
+    uda50_write_ip(&called.uda, 0);
+    EXPECT(uda50_machine_write_sa(&called.uda, 0x8000, &reached), UDA50_OK);
+    EXPECT(uda50_machine_run(&called.uda, 1, &reached), UDA50_IDLE);
+    partial.size--;
+    reached.images[0] = &partial;
+    EXPECT(uda50_machine_write_sa(&called.uda, BASE, &reached), UDA50_BAD_MACHINE);
+    EXPECT(uda50_machine_run(&called.uda, 1, &reached), UDA50_BAD_MACHINE);
+    for (uint32_t unit = 0; unit < 3; unit++) {
+        uda50_write_ip(&called.uda, 0);
+        attach(&called, unit);
+        expect_plain(UDA50_OTHER_KIND, MEMORY, &called.map);
+        if (unit < 2) {
+            EXPECT(uda50_attach(&called.uda, 2, &image, false), UDA50_OK);
+            expect_plain(UDA50_OTHER_KIND, MEMORY, &called.map);
+            EXPECT(uda50_detach(&called.uda, 2, &image), UDA50_OK);
+            expect_plain(UDA50_OTHER_KIND, MEMORY, &called.map);
+            detach(&called, unit);
+            expect_plain(UDA50_OK, MEMORY, &called.map);
+        }
+    }
+    attach(&called, 0);
+    attach(&called, 1);
 }
 
 /* A window that is longer than the bus has addresses, which end where the map ends. Images in memory need none. */
@@ -931,6 +1052,7 @@ static void any_window(void)
     reach(&held, MAPPED);
     held.reached.window = NULL;
     EXPECT(uda50_machine_turn(&held.uda, &held.reached) < UDA50_DEAD, true);
+    EXPECT(uda50_machine_write_sa(&held.uda, 1, &held.reached), UDA50_OK);
 }
 
 /* ---- Memory ---- */
@@ -1126,7 +1248,7 @@ static void post_any(uint32_t n, bool compatible)
 /* Gives the port commands for which it has credits, and most response descriptors. */
 static void post_some(bool compatible)
 {
-    uda50_state state;
+    uda50_state state = { .size = sizeof state };
 
     EXPECT(uda50_get_state(&called.uda, &state), UDA50_OK);
     for (uint32_t n = 0; n < RESPONSES; n++)
@@ -1229,8 +1351,9 @@ int main(int count, char **arguments)
     aborted_write();
     not_ready();
     ready_once();
-    lent_in_pieces();
+    lent_bytes();
     told_bytes();
+    refused_blocks();
     statuses_of_images();
     statuses_of_turns();
     refused_machines();
@@ -1241,6 +1364,7 @@ int main(int count, char **arguments)
     missing_memory();
     copies();
     refused_copies();
+    refused_calls();
     large_commands();
     free_machine(&called);
     free_machine(&held);

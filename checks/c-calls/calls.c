@@ -53,18 +53,21 @@ static void answers_without_controller(uda50 *handle)
 {
     uda50_state state;
     uda50_turn_record last;
+    uda50_unit info;
     uint8_t text[4] = { 'a', 'b', 'c', 'd' };
     uint16_t vector = 0x1234;
 
     memset(&state, 0x5a, sizeof state);
     memset(&last, 0x5a, sizeof last);
+    memset(&info, 0x5a, sizeof info);
+    state.size = last.size = info.size = 0;
     EXPECT(attached(handle, 0, blocks, BLOCK, false), UDA50_NO_CONTROLLER);
     EXPECT(detached(handle, 0, NULL, 0), UDA50_NO_CONTROLLER);
     EXPECT(freed(handle, NULL, 0), UDA50_NO_CONTROLLER);
     EXPECT(uda50_inject_failure(handle, 0, 1), UDA50_NO_CONTROLLER);
     uda50_write_ip(handle, 0);
     EXPECT(uda50_read_ip(handle), 0);
-    uda50_write_sa(handle, 0x8000, memory, sizeof memory);
+    EXPECT(uda50_write_sa(handle, 0x8000, memory, sizeof memory), UDA50_NO_CONTROLLER);
     EXPECT(uda50_read_sa(handle), 0);
     EXPECT(uda50_turn(handle, memory, sizeof memory), UDA50_NO_CONTROLLER);
     EXPECT(uda50_run(handle, 5, memory, sizeof memory), UDA50_NO_CONTROLLER);
@@ -74,6 +77,9 @@ static void answers_without_controller(uda50 *handle)
     EXPECT(state.phase, 0x5a5a5a5a);
     EXPECT(uda50_get_last_turn(handle, &last), UDA50_NO_CONTROLLER);
     EXPECT(last.kind, 0x5a5a5a5a);
+    EXPECT(uda50_get_unit(handle, 9, &info), UDA50_NO_CONTROLLER);
+    EXPECT(info.blocks, 0x5a5a5a5a);
+    EXPECT(uda50_set_protected(handle, 9, true), UDA50_NO_CONTROLLER);
     EXPECT(uda50_format_last_turn(handle, text, sizeof text), UDA50_NO_CONTROLLER);
     EXPECT(text[0], 'a');
     EXPECT(handle->at == NULL, true);
@@ -87,7 +93,7 @@ static void handles(void)
     answers_without_controller(&handle);
     EXPECT(uda50_new(&handle, false), UDA50_OK);
     EXPECT(uda50_read_sa(&handle), 0x0800);
-    uda50_write_sa(&handle, 0x8000, memory, sizeof memory);
+    EXPECT(uda50_write_sa(&handle, 0x8000, memory, sizeof memory), UDA50_OK);
     EXPECT(uda50_new(&handle, false), UDA50_HAS_CONTROLLER);
     EXPECT(uda50_read_sa(&handle), 0x1080);
     EXPECT(freed(&handle, NULL, 0), UDA50_OK);
@@ -112,6 +118,8 @@ static void images(void)
     EXPECT(attached(&handle, UINT32_MAX, blocks, BLOCK, false), UDA50_NO_SUCH_UNIT);
     EXPECT(detached(&handle, 4, NULL, 0), UDA50_NO_SUCH_UNIT);
     EXPECT(uda50_inject_failure(&handle, 4, 1), UDA50_NO_SUCH_UNIT);
+    EXPECT(uda50_set_protected(&handle, 4, true), UDA50_NO_SUCH_UNIT);
+    EXPECT(uda50_set_protected(&handle, 3, true), UDA50_NOT_ATTACHED);
     EXPECT(attached(&handle, 0, blocks, BLOCK + 1, false), UDA50_BAD_LENGTH);
     EXPECT(attached(&handle, 0, blocks, BLOCK - 1, false), UDA50_BAD_LENGTH);
     EXPECT(attached(&handle, 0, blocks, 0, false), UDA50_BAD_LENGTH);
@@ -220,6 +228,51 @@ static void texts(void)
     freed(&handle, NULL, 0);
 }
 
+static uint64_t wide[8], untouched[8];
+
+/* Whether the bytes from this one on are as they were. */
+static bool ends_at(size_t bytes)
+{
+    return memcmp((uint8_t *)wide + bytes, (uint8_t *)untouched + bytes, sizeof wide - bytes) == 0;
+}
+
+/* Says that the struct in `wide` has this many bytes. */
+static void *of_size(size_t bytes)
+{
+    memset(wide, 0x5a, sizeof wide);
+    memcpy(wide, &bytes, sizeof bytes);
+    memcpy(untouched, wide, sizeof wide);
+    return wide;
+}
+
+/* A struct that says it is smaller than the library's stays as it was. Of a larger one no more bytes change. */
+static void sizes(void)
+{
+    uda50 handle = { 0 };
+
+    EXPECT(uda50_new(&handle, true), UDA50_OK);
+    for (size_t bytes = 0; bytes <= sizeof wide; bytes++) {
+        bool is_state = bytes >= sizeof(uda50_state), is_turn = bytes >= sizeof(uda50_turn_record);
+        bool is_unit = bytes >= sizeof(uda50_unit);
+
+        EXPECT(uda50_get_state(&handle, of_size(bytes)), is_state ? UDA50_OK : UDA50_BAD_LENGTH);
+        EXPECT(ends_at(is_state ? sizeof(uda50_state) : 0), true);
+        EXPECT(ends_at(0), !is_state);
+        EXPECT(memcmp(wide, untouched, sizeof(size_t)), 0);
+        EXPECT(uda50_get_last_turn(&handle, of_size(bytes)), is_turn ? UDA50_OK : UDA50_BAD_LENGTH);
+        EXPECT(ends_at(is_turn ? sizeof(uda50_turn_record) : 0), true);
+        EXPECT(ends_at(0), !is_turn);
+        EXPECT(memcmp(wide, untouched, sizeof(size_t)), 0);
+        EXPECT(uda50_get_unit(&handle, 3, of_size(bytes)), is_unit ? UDA50_OK : UDA50_BAD_LENGTH);
+        EXPECT(ends_at(is_unit ? sizeof(uda50_unit) : 0), true);
+        EXPECT(ends_at(0), !is_unit);
+        EXPECT(memcmp(wide, untouched, sizeof(size_t)), 0);
+        EXPECT(uda50_get_unit(&handle, 4, of_size(bytes)), UDA50_NO_SUCH_UNIT);
+        EXPECT(ends_at(0), true);
+    }
+    freed(&handle, NULL, 0);
+}
+
 static void no_leak(void)
 {
     for (int round = 0; round < ROUNDS; round++) {
@@ -242,6 +295,7 @@ int main(void)
     whole_images();
     memories();
     texts();
+    sizes();
     no_leak();
     return ended();
 }

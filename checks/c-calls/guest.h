@@ -16,6 +16,12 @@ enum { GET_UNIT_STATUS = 3, SET_CONTROLLER = 4, ONLINE = 9, READ = 33, WRITE = 3
 #define PER_THREAD
 #endif
 
+/* How the guest's words for SA and the turns go to the port. A program whose controllers have called images defines both. */
+#ifndef WRITE_SA
+#define WRITE_SA uda50_write_sa
+#define RUN uda50_run
+#endif
+
 static PER_THREAD int failures;
 #ifndef HAS_MEMORY
 static PER_THREAD uint8_t memory[SIZE];
@@ -82,10 +88,10 @@ static inline void start(uda50 *uda)
 {
     memset(memory, 0, sizeof memory);
     uda50_write_ip(uda, 0);
-    uda50_write_sa(uda, 0x8080 | 1 << 11 | 2 << 8 | VECTOR / 4, memory, SIZE);
-    uda50_write_sa(uda, BASE, memory, SIZE);
-    uda50_write_sa(uda, 0, memory, SIZE);
-    uda50_write_sa(uda, 1, memory, SIZE);
+    EXPECT(WRITE_SA(uda, 0x8080 | 1 << 11 | 2 << 8 | VECTOR / 4, memory, SIZE), UDA50_OK);
+    EXPECT(WRITE_SA(uda, BASE, memory, SIZE), UDA50_OK);
+    EXPECT(WRITE_SA(uda, 0, memory, SIZE), UDA50_OK);
+    EXPECT(WRITE_SA(uda, 1, memory, SIZE), UDA50_OK);
 }
 
 /* Gives the port the response descriptor `n`. */
@@ -132,7 +138,7 @@ static inline uint32_t status_of(uda50 *uda, command c)
     give_response(response % RESPONSES);
     post(place % COMMANDS, c);
     uda50_read_ip(uda);
-    EXPECT(uda50_run(uda, 100, memory, SIZE), UDA50_IDLE);
+    EXPECT(RUN(uda, 100, memory, SIZE), UDA50_IDLE);
     place++;
     return get16(response_at(response++ % RESPONSES) + 10);
 }

@@ -1,6 +1,6 @@
 /* maps.c: turns over mapped memory. First what a hole does, by what it hits; transfers of 0 bytes; registers that lead
    to one page, or lie in memory; and the end of memory. Then random guests. Over a map without holes a controller does what
-   it does over one array. Over any map uda50_turn_mapped does what uda50_machine_turn does by calls that go byte by
+   it does over one array. Over any map uda50_run_mapped does what uda50_machine_run does by calls that go byte by
    byte, whatever is in the window of those.
    Usage: maps [MAPS [EVENTS]] */
 #include "guest.h"
@@ -106,7 +106,7 @@ static uint32_t turn(machine *it)
 {
     memset(it->window, (int)any(256), SIZE);
     return it->by_calls ? uda50_machine_turn(&it->uda, &it->calls)
-                        : uda50_turn_mapped(&it->uda, it->physical, it->length, &it->map);
+                        : uda50_run_mapped(&it->uda, 1, it->physical, it->length, &it->map);
 }
 
 static uint32_t run_turns(machine *it, uint32_t turns)
@@ -381,9 +381,9 @@ static void counted_run(machine *it)
 /* A run goes on after an attention message. */
 static void run_after_attention(machine *it)
 {
-    static uint8_t disk[BLOCK];
-    uda50_image image = { disk, BLOCK };
-    uda50_state state;
+    static uint8_t disk[BLOCK], other[BLOCK];
+    uda50_image image = { disk, BLOCK }, second = { other, BLOCK };
+    uda50_state state = { .size = sizeof state };
 
     begin(it);
     post(1, (command){ SET_CONTROLLER, 0, 2, 0x800000, 0 }); /* it asks for attention messages */
@@ -391,14 +391,14 @@ static void run_after_attention(machine *it)
     uda50_read_ip(&it->uda);
     EXPECT(run(it), UDA50_IDLE);
     EXPECT(uda50_attach(&it->uda, 1, &image, false), UDA50_OK);
-    EXPECT(uda50_attach_called(&it->uda, 2, 1, false), UDA50_OK);
+    EXPECT(uda50_attach(&it->uda, 2, &second, false), UDA50_OK);
     EXPECT(uda50_get_state(&it->uda, &state), UDA50_OK);
     EXPECT(state.attentions, 6);
     EXPECT(run_turns(it, 2), UDA50_NOTIFIED);
     EXPECT(uda50_get_state(&it->uda, &state), UDA50_OK);
     EXPECT(state.attentions, 0);
     EXPECT(uda50_detach(&it->uda, 1, &image), UDA50_OK);
-    EXPECT(uda50_detach(&it->uda, 2, &(uda50_image){ NULL, 0 }), UDA50_OK);
+    EXPECT(uda50_detach(&it->uda, 2, &second), UDA50_OK);
     EXPECT(uda50_attach(&it->uda, 1, &image, false), UDA50_OK);
     give_response(0);
     show(it);
@@ -546,11 +546,10 @@ static void refused_maps(machine *it)
     static uda50 none;
     uda50_map map = it->map;
 
-    EXPECT(uda50_turn_mapped(&none, it->physical, it->length, &map), UDA50_NO_CONTROLLER);
     EXPECT(uda50_run_mapped(&none, 1, it->physical, it->length, &map), UDA50_NO_CONTROLLER);
     EXPECT(uda50_write_sa_mapped(&none, 0, it->physical, it->length, &map), UDA50_NO_CONTROLLER);
     map.page = 32;
-    EXPECT(uda50_turn_mapped(&it->uda, it->physical, it->length, &map), UDA50_BAD_MAP);
+    EXPECT(uda50_run_mapped(&it->uda, 1, it->physical, it->length, &map), UDA50_BAD_MAP);
     map.page = PAGE_BITS;
     map.scale = 32;
     EXPECT(uda50_run_mapped(&it->uda, 1, it->physical, it->length, &map), UDA50_BAD_MAP);
@@ -559,16 +558,16 @@ static void refused_maps(machine *it)
     EXPECT(uda50_write_sa_mapped(&it->uda, 0, it->physical, it->length, &map), UDA50_TOO_LARGE);
     map.in_memory = 3;
     map.page = 0;
-    EXPECT(uda50_turn_mapped(&it->uda, it->physical, it->length, &map), UDA50_BAD_LENGTH);
+    EXPECT(uda50_run_mapped(&it->uda, 1, it->physical, it->length, &map), UDA50_BAD_LENGTH);
     map.in_memory = UINT32_MAX;
     map.page = 31;
-    EXPECT(uda50_turn_mapped(&it->uda, it->physical, it->length, &map), UDA50_TOO_LARGE);
+    EXPECT(uda50_run_mapped(&it->uda, 1, it->physical, it->length, &map), UDA50_TOO_LARGE);
     map = (uda50_map){ .registers = no_registers, .page = PAGE_BITS };
     begin(it);
-    EXPECT(uda50_turn_mapped(&it->uda, it->physical, it->length, &map), UDA50_IDLE); /* it doesn't poll */
+    EXPECT(uda50_run_mapped(&it->uda, 1, it->physical, it->length, &map), UDA50_IDLE); /* it doesn't poll */
     EXPECT(uda50_run_mapped(&it->uda, 0, it->physical, it->length, &map), UDA50_OK);
     uda50_read_ip(&it->uda);
-    EXPECT(uda50_turn_mapped(&it->uda, it->physical, it->length, &map), UDA50_DEAD);
+    EXPECT(uda50_run_mapped(&it->uda, 1, it->physical, it->length, &map), UDA50_DEAD);
     EXPECT(uda50_read_sa(&it->uda), 0x8006);
 }
 
@@ -583,7 +582,7 @@ static bool is_range(uda50_range range, uint32_t at, uint32_t bytes)
 static void refused_uses(machine *it)
 {
     static uda50 none;
-    uda50_turn_use use = { .place = 7, .missing = 5 }, before = use;
+    uda50_turn_use use = { .size = sizeof use, .place = 7, .missing = 5 }, before = use;
     uda50_range area = { 3, 4 };
 
     EXPECT(uda50_get_descriptors(&none, it->window, SIZE, &use), UDA50_NO_CONTROLLER);
@@ -592,7 +591,13 @@ static void refused_uses(machine *it)
     EXPECT(uda50_get_zeroed(&none, 0, it->window, SIZE, &area), UDA50_NO_CONTROLLER);
     EXPECT(uda50_write_sa_at(&none, 0, it->window, SIZE, false, &area), UDA50_NO_CONTROLLER);
     EXPECT(uda50_get_descriptors(&it->uda, it->window, SIZE - 1, &use), UDA50_BAD_LENGTH);
+    EXPECT(memcmp(&use, &before, sizeof use), 0);
+    EXPECT(uda50_get_descriptors(&it->uda, it->window, SIZE, &use), UDA50_OK);
+    before = use;
     EXPECT(uda50_get_body(&it->uda, it->window, SIZE - 1, &use), UDA50_BAD_LENGTH);
+    EXPECT(memcmp(&use, &before, sizeof use), 0);
+    EXPECT(uda50_get_body(&it->uda, it->window, SIZE, &use), UDA50_OK);
+    before = use;
     EXPECT(uda50_turn_at(&it->uda, it->window, SIZE - 1, &use), UDA50_BAD_LENGTH);
     EXPECT(memcmp(&use, &before, sizeof use), 0);
     EXPECT(is_range(area, 3, 4), true);
@@ -608,22 +613,27 @@ static void told_ranges(machine *it)
     post(1, read_two);
     memset(it->window, 0xa5, SIZE);
     uda50_read_ip(&it->uda);
-    memset(&use, 0, sizeof use);
+    use = (uda50_turn_use){ .size = sizeof use };
     EXPECT(uda50_get_descriptors(&it->uda, it->window, SIZE, &use), UDA50_OK);
     EXPECT(is_range(use.descriptors[0], NEXT, 4) && is_range(use.descriptors[1], BEFORE, 4), true);
-    EXPECT(is_range(use.descriptors[2], BASE + 4, 4) && is_range(use.descriptors[3], BASE, 4), true);
+    EXPECT(is_range(use.descriptors[2], 0, 0) && is_range(use.descriptors[3], 0, 0), true); /* no message waits */
     memcpy(it->window + BASE, memory + BASE, 4 * (RESPONSES + COMMANDS));
     EXPECT(uda50_get_body(&it->uda, it->window, SIZE, &use), UDA50_OK);
     EXPECT(is_range(use.body, command_at(1) - 4, 52), true);
+    EXPECT(use.reads_body, 1);
     memcpy(it->window + use.body.at, memory + use.body.at, use.body.bytes);
     EXPECT(uda50_turn_at(&it->uda, it->window, SIZE, &use), UDA50_FETCHED);
     EXPECT(is_range(use.written[1], NEXT + 2, 2), true);
     EXPECT(uda50_get_descriptors(&it->uda, it->window, SIZE, &use), UDA50_OK);
     EXPECT(uda50_get_body(&it->uda, it->window, SIZE, &use), UDA50_OK);
     EXPECT(is_range(use.body, BUFFER, 2 * BLOCK), true);
+    EXPECT(use.reads_body, 0);
     EXPECT(uda50_turn_at(&it->uda, it->window, SIZE, &use), UDA50_EXECUTED);
     EXPECT(is_range(use.written[0], BUFFER, 2 * BLOCK), true);
     EXPECT(it->window[BUFFER] == 2 && it->window[BUFFER + BLOCK] == 3 && it->window[BUFFER - 1] == 0xa5, true);
+    EXPECT(uda50_get_descriptors(&it->uda, it->window, SIZE, &use), UDA50_OK);
+    EXPECT(is_range(use.descriptors[0], 0, 0) && is_range(use.descriptors[1], 0, 0), true); /* it polls no more */
+    EXPECT(is_range(use.descriptors[2], BASE + 4, 4) && is_range(use.descriptors[3], BASE, 4), true);
 }
 
 /* ---- Random guests ---- */

@@ -8,6 +8,7 @@ static uda50_state state_of(uda50 *uda)
     uda50_state state;
 
     memset(&state, 0x5a, sizeof state);
+    state.size = sizeof state;
     EXPECT(uda50_get_state(uda, &state), UDA50_OK);
     return state;
 }
@@ -17,6 +18,7 @@ static uda50_turn_record turn_of(uda50 *uda)
     uda50_turn_record turn;
 
     memset(&turn, 0x5a, sizeof turn);
+    turn.size = sizeof turn;
     EXPECT(uda50_get_last_turn(uda, &turn), UDA50_OK);
     return turn;
 }
@@ -246,6 +248,104 @@ static void drive_types(void)
     EXPECT(uda50_free(&other, images), UDA50_OK);
 }
 
+static void expect_unit(uda50 *of, uint32_t unit, uda50_unit wanted, int line)
+{
+    uda50_unit info;
+
+    memset(&info, 0x5a, sizeof info);
+    info.size = sizeof info;
+    EXPECT(uda50_get_unit(of, unit, &info), UDA50_OK);
+    expect(info.blocks, wanted.blocks, "blocks", line);
+    expect(info.drive_type, wanted.drive_type, "drive_type", line);
+    expect(info.attached, wanted.attached, "attached", line);
+    expect(info.called, wanted.called, "called", line);
+    expect(info.online, wanted.online, "online", line);
+    expect(info.write_protected, wanted.write_protected, "write_protected", line);
+    expect(info.soft_protected, wanted.soft_protected, "soft_protected", line);
+}
+
+#define EXPECT_UNIT(of, unit, ...) expect_unit(&of, unit, (uda50_unit){ __VA_ARGS__ }, __LINE__)
+
+/* The state of units: without an image, with one, of another type, online, software-protected, and called. */
+static void units(void)
+{
+    uda50 other = { 0 };
+    uda50_image images[UDA50_UNITS] = { { NULL, 0 } }, one = { disks[1], 3 * BLOCK }, two = { disks[2], 5 * BLOCK };
+
+    EXPECT(uda50_new(&other, true), UDA50_OK);
+    EXPECT(uda50_set_type(&other, 0, UDA50_RD54), UDA50_OK);
+    EXPECT(uda50_set_type(&other, 2, UDA50_RRD40), UDA50_OK);
+    EXPECT_UNIT(other, 0, .drive_type = UDA50_RD54);
+    EXPECT_UNIT(other, 1, .drive_type = UDA50_RA81);
+    EXPECT(uda50_attach(&other, 1, &one, false), UDA50_OK);
+    EXPECT(uda50_attach(&other, 2, &two, false), UDA50_OK);
+    EXPECT_UNIT(other, 1, .blocks = 3, .drive_type = UDA50_RA81, .attached = 1);
+    EXPECT_UNIT(other, 2, .blocks = 5, .drive_type = UDA50_RRD40, .attached = 1, .write_protected = 1);
+    EXPECT(uda50_set_protected(&other, 2, false), UDA50_OK); /* the type is read-only */
+    EXPECT_UNIT(other, 2, .blocks = 5, .drive_type = UDA50_RRD40, .attached = 1, .write_protected = 1);
+    EXPECT(status_of(&other, (command){ SET_CONTROLLER, 0, 1, 0, 0 }), 0);
+    EXPECT(status_of(&other, (command){ ONLINE, 1, 2, 0, 0 }), 0);
+    EXPECT_UNIT(other, 1, .blocks = 3, .drive_type = UDA50_RA81, .attached = 1, .online = 1);
+    EXPECT_UNIT(other, 2, .blocks = 5, .drive_type = UDA50_RRD40, .attached = 1, .write_protected = 1);
+    start(&other);
+    give_response(0);
+    post(0, (command){ ONLINE, 1, 1, 0, 0 });
+    put16(command_at(0) + 10, 4); /* with software write protection */
+    put16(command_at(0) + 14, 0x1000);
+    uda50_read_ip(&other);
+    EXPECT(uda50_run(&other, 100, memory, SIZE), UDA50_IDLE);
+    EXPECT_UNIT(other, 1, .blocks = 3, .drive_type = UDA50_RA81, .attached = 1, .online = 1, .soft_protected = 1);
+    EXPECT(uda50_set_protected(&other, 1, true), UDA50_OK);
+    EXPECT_UNIT(other, 1, .blocks = 3, .drive_type = UDA50_RA81, .attached = 1, .online = 1, .write_protected = 1,
+                .soft_protected = 1);
+    EXPECT(uda50_attach_called(&other, 3, 77, true), UDA50_OK);
+    EXPECT_UNIT(other, 3, .blocks = 77, .drive_type = UDA50_RA81, .attached = 1, .called = 1, .write_protected = 1);
+    EXPECT(uda50_set_protected(&other, 3, false), UDA50_OK);
+    EXPECT_UNIT(other, 3, .blocks = 77, .drive_type = UDA50_RA81, .attached = 1, .called = 1);
+    EXPECT(uda50_run(&other, 1, memory, SIZE), UDA50_OTHER_KIND);
+    EXPECT(uda50_detach(&other, 1, &images[1]), UDA50_OK);
+    EXPECT(images[1].at == disks[1] && images[1].length == 3 * BLOCK, true);
+    EXPECT(uda50_run(&other, 1, memory, SIZE), UDA50_OTHER_KIND); /* unit 3 has a called image still */
+    images[1] = (uda50_image){ NULL, 0 };
+    EXPECT_UNIT(other, 1, .drive_type = UDA50_RA81);
+    EXPECT(uda50_free(&other, images), UDA50_OK);
+    two = images[2];
+    images[2] = (uda50_image){ NULL, 0 };
+    EXPECT(uda50_new(&other, false), UDA50_OK); /* a strict controller has no read-only type */
+    EXPECT(uda50_set_type(&other, 2, UDA50_RRD40), UDA50_OK);
+    EXPECT(uda50_attach(&other, 2, &two, true), UDA50_OK);
+    EXPECT(uda50_set_protected(&other, 2, false), UDA50_OK);
+    EXPECT_UNIT(other, 2, .blocks = 5, .drive_type = UDA50_RRD40, .attached = 1);
+    EXPECT(uda50_free(&other, images), UDA50_OK);
+}
+
+/* The button of a unit that is online: the guest's Writes fail while it is on. An injected failure stays. */
+static void button(void)
+{
+    static const command write = { WRITE, 1, 4, BLOCK, 6 };
+    uda50 other = { 0 };
+    uda50_image images[UDA50_UNITS] = { { NULL, 0 } }, image = { disks[1], sizeof disks[1] };
+
+    EXPECT(uda50_new(&other, true), UDA50_OK);
+    EXPECT(uda50_attach(&other, 1, &image, false), UDA50_OK);
+    EXPECT(status_of(&other, (command){ SET_CONTROLLER, 0, 1, 0, 0 }), 0);
+    EXPECT(status_of(&other, (command){ ONLINE, 1, 2, 0, 0 }), 0);
+    EXPECT(status_of(&other, write), 0);
+    EXPECT(uda50_inject_failure(&other, 1, 2), UDA50_OK);
+    EXPECT(uda50_set_protected(&other, 1, true), UDA50_OK);
+    memset(memory + BUFFER, 'x', BLOCK);
+    EXPECT(status_of(&other, write), 0x2006);
+    EXPECT(disks[1][6 * BLOCK] == 'x', false);
+    EXPECT(status_of(&other, (command){ GET_UNIT_STATUS, 1, 5, 0, 0 }), 0);
+    EXPECT(get16(response_at(0) + 14) & 0x2000, 0x2000);
+    EXPECT(uda50_set_protected(&other, 1, false), UDA50_OK);
+    EXPECT(status_of(&other, write), 0);
+    EXPECT(disks[1][6 * BLOCK], 'x');
+    EXPECT(status_of(&other, write), 0x0b);
+    EXPECT(uda50_free(&other, images), UDA50_OK);
+    EXPECT(images[1].at == disks[1] && images[1].length == sizeof disks[1], true);
+}
+
 int main(void)
 {
     uda50_image one = { disks[1], sizeof disks[1] }, two = { disks[2], sizeof disks[2] };
@@ -262,5 +362,7 @@ int main(void)
     arguments();
     identity();
     drive_types();
+    units();
+    button();
     return ended();
 }

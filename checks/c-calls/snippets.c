@@ -28,7 +28,7 @@ void write_sa_of_vax(uda50 *uda, uint16_t word);
 uint32_t begin_turn(uda50 *uda, uda50_turn_use *turn), end_turn(uda50 *uda, uda50_turn_use *turn);
 bool read_dma(uda50_range range, uint8_t *to);
 void write_dma(uda50_range range, const uint8_t *from);
-bool attach_overlay(uda50 *uda);
+bool attach_overlay(uda50 *uda), write_sa_over_overlay(uda50 *uda, uint16_t word);
 bool read_base(uint32_t lbn, uint8_t *to), read_second(uint32_t lbn, uint8_t *to);
 bool write_second(uint32_t lbn, const uint8_t *from);
 void write_sa_of_11_70(uda50 *uda, uint16_t word);
@@ -328,6 +328,7 @@ static uint32_t executed(uint32_t (*take_turns)(uda50 *), uda50 *uda, command c,
 static void play_overlay(void)
 {
     enum { DRIVE_ERROR = 0x0b };
+    static const uint16_t words[] = { 0x8080 | 1 << 11 | 2 << 8 | VECTOR / 4, BASE, 0, 1 };
     uda50_image images[UDA50_UNITS] = { { NULL, 0 } };
     uda50 uda = { NULL };
     uint32_t bytes;
@@ -335,7 +336,8 @@ static void play_overlay(void)
     memset(base, 'b', sizeof base);
     EXPECT(uda50_new(&uda, true), UDA50_OK);
     EXPECT(attach_overlay(&uda), true);
-    start(&uda);
+    for (int n = 0; n < 4; n++)
+        EXPECT(write_sa_over_overlay(&uda, words[n]), true);
     EXPECT(executed(take_turns_over_overlay, &uda, (command){ ONLINE, 0, 0, 0, 0 }, &bytes), 0);
     memset(memory + BUFFER, 'w', 8 * BLOCK);
     EXPECT(executed(take_turns_over_overlay, &uda, (command){ WRITE, 0, 1, 4 * BLOCK, 3 }, &bytes), DRIVE_ERROR);

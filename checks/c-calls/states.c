@@ -175,7 +175,7 @@ static void test_port(machine *it, const uda50_state *before, uint32_t kind, con
 static void play_both(machine *one, machine *other, uint32_t events)
 {
     static uint8_t state[STATE];
-    uda50_state before, now, also;
+    uda50_state before = { .size = sizeof before }, now = before, also = before;
 
     EXPECT(uda50_get_state(&one->uda, &before), UDA50_OK);
     for (uint32_t n = 0; n < events && failures == 0; n++) {
@@ -383,8 +383,8 @@ static void impossible_at_first(void)
 static void refusals(void)
 {
     static uint8_t state[STATE];
-    uda50_state now;
-    uda50_turn_record turn;
+    uda50_state now = { .size = sizeof now };
+    uda50_turn_record turn = { .size = sizeof turn };
     uda50_image image = { NULL, 0 }, spare = { worker.disks[2], BLOCK };
 
     at_work(&first);

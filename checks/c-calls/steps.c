@@ -1,10 +1,25 @@
-/* steps.c: what may happen between the steps of a turn, and what may not. A reset leaves the last step nothing to do. Blocks
-   of the dropped command that are made ready too late count for the next one. A store of the guest into the buffer of a
-   Read that then fails is lost. Two controllers use one window one after the other. If c/uda50_machine.c is compiled with
-   UDA50_DEBUG, a window that changes within a turn of a machine is an assertion that fails. */
+/* steps.c: what may happen between the steps of a turn, and what may not. A step of another controller, of an earlier
+   turn or out of order is refused. Blocks that were moved for a dropped command have no effect on a later one. A store
+   of the guest into the rest of the buffer of a Read that then fails stays. Two controllers use one window one after the other.
+   If c/uda50_machine.c is compiled with UDA50_DEBUG, a window that changes within a turn of a machine is an assertion
+   that fails. */
 #define _DEFAULT_SOURCE
-#include "guest.h"
 #include "uda50_machine.h"
+
+/* A word for SA and turns of a controller with a called image, in one array. They use no blocks. */
+static uint32_t write_sa(uda50 *it, uint16_t word, uint8_t *memory, size_t length)
+{
+    return uda50_machine_write_sa(it, word, &(uda50_machine){ .size = sizeof(uda50_machine), .memory = memory, .length = length });
+}
+
+static uint32_t run(uda50 *it, uint32_t turns, uint8_t *memory, size_t length)
+{
+    return uda50_machine_run(it, turns, &(uda50_machine){ .size = sizeof(uda50_machine), .memory = memory, .length = length });
+}
+
+#define WRITE_SA write_sa
+#define RUN run
+#include "guest.h"
 #include "uda50_steps.h"
 
 #include <signal.h>
@@ -27,7 +42,7 @@ static void copy(uint8_t *to, const uint8_t *from, uda50_range range)
 /* The steps before the one that takes the turn. Each address leads somewhere. */
 static void begin_turn(uda50 *it, uda50_turn_use *turn)
 {
-    memset(turn, 0, sizeof *turn);
+    *turn = (uda50_turn_use){ .size = sizeof *turn, .controller = (uintptr_t)it };
     EXPECT(uda50_get_descriptors(it, window, SIZE, turn), UDA50_OK);
     for (int n = 0; n < 4; n++)
         copy(window, memory, turn->descriptors[n]);
@@ -66,10 +81,8 @@ static void end(uda50 *it)
 }
 
 /* Brings unit 0 online, and posts a command of two blocks until it is pending. Begins the turn that executes it. */
-static uda50_blocks begin(uda50 *it, uint8_t opcode, uda50_turn_use *turn)
+static void begin(uda50 *it, uint8_t opcode, uda50_turn_use *turn)
 {
-    uda50_blocks blocks = { 9, 9, 9, 9 };
-
     EXPECT(status_of(it, (command){ SET_CONTROLLER, 0, 1, 0, 0 }), 0);
     EXPECT(status_of(it, (command){ ONLINE, 0, 2, 0, 0 }), 0);
     give_response(2);
@@ -78,63 +91,196 @@ static uda50_blocks begin(uda50 *it, uint8_t opcode, uda50_turn_use *turn)
     uda50_read_ip(it);
     EXPECT(whole_turn(it), UDA50_FETCHED);
     begin_turn(it, turn);
-    EXPECT(uda50_get_blocks(it, window, SIZE, turn, &blocks), UDA50_OK);
-    EXPECT(blocks.count, 2);
-    return blocks;
+    EXPECT(turn->blocks.count, 2);
+    EXPECT(turn->blocks.first, 1);
 }
 
-/* Makes `count` blocks from block `first` on ready for a Read, which gets bytes of 0x55, or for a Write. */
-static void make_ready(uint8_t opcode, uint32_t first, uint32_t count)
+/* Says that `count` blocks are moved for a Read, which gets bytes of 0x55, or for a Write. */
+static void make_ready(uda50_turn_use *turn, uint32_t count)
 {
-    uint8_t bytes[2 * BLOCK];
+    static uint8_t bytes[2 * BLOCK];
 
     memset(bytes, 0x55, sizeof bytes);
-    if (opcode == READ)
-        EXPECT(uda50_lend_blocks(&uda, 0, first, bytes, count * BLOCK), UDA50_OK);
-    else
-        EXPECT(uda50_allow_blocks(&uda, 0, UDA50_WRITES, count), UDA50_OK);
+    turn->ready = count;
+    if (turn->blocks.use == UDA50_READS)
+        turn->lent = (uda50_image){ bytes, count * BLOCK };
 }
 
-/* After a reset the turn does nothing and writes nothing. Its blocks are gone. The calls that make them ready are
-   accepted. */
+/* Each step with this struct has this status, and changes neither the struct nor anything else. */
+static void all_refused(uda50 *it, const uda50_turn_use *turn, uint32_t status)
+{
+    static uint8_t before[UDA50_STATE_LENGTH], after[UDA50_STATE_LENGTH], kept[SIZE], bytes[BLOCK], none[BLOCK];
+    uda50_turn_use given = *turn;
+
+    memcpy(kept, window, SIZE);
+    EXPECT(uda50_save(it, before, sizeof before), UDA50_OK);
+    EXPECT(uda50_get_body(it, window, SIZE, &given), status);
+    EXPECT(uda50_get_written(it, window, SIZE, &given, 0, bytes, BLOCK), status);
+    EXPECT(uda50_turn_at(it, window, SIZE, &given), status);
+    EXPECT(uda50_save(it, after, sizeof after), UDA50_OK);
+    EXPECT(memcmp(&given, turn, sizeof given), 0);
+    EXPECT(memcmp(bytes, none, BLOCK), 0);
+    EXPECT(memcmp(kept, window, SIZE), 0);
+    EXPECT(memcmp(before, after, sizeof before), 0);
+}
+
+/* A step of an earlier turn, after the turn was taken or another one was begun and taken. */
+static void earlier_turns(void)
+{
+    uda50_turn_use turn, later;
+
+    begin(&uda, READ, &turn);
+    make_ready(&turn, 2);
+    later = turn;
+    EXPECT(end_turn(&uda, &later), UDA50_EXECUTED);
+    all_refused(&uda, &later, UDA50_STALE);
+    all_refused(&uda, &turn, UDA50_STALE);
+    EXPECT(uda50_turn_at(&uda, window, SIZE - 1, &turn), UDA50_STALE); /* before all else */
+    EXPECT(whole_turn(&uda), UDA50_DELIVERED);
+    all_refused(&uda, &turn, UDA50_STALE);
+}
+
+/* A step of another controller, which was changed by as many calls. */
+static void other_controllers(void)
+{
+    uda50 twins[2] = { { NULL }, { NULL } };
+    uda50_turn_use turns[2];
+
+    for (int n = 0; n < 2; n++) {
+        EXPECT(uda50_new(&twins[n], true), UDA50_OK);
+        EXPECT(uda50_attach_called(&twins[n], 0, BLOCKS, false), UDA50_OK);
+    }
+    for (int n = 0; n < 2; n++)
+        begin(&twins[n], READ, &turns[n]);
+    EXPECT(turns[0].count, turns[1].count);
+    for (int n = 0; n < 2; n++) {
+        all_refused(&twins[n], &turns[1 - n], UDA50_STALE);
+        turns[n].controller++;
+        all_refused(&twins[n], &turns[n], UDA50_STALE);
+        turns[n].controller--;
+        make_ready(&turns[n], 2);
+        EXPECT(end_turn(&twins[n], &turns[n]), UDA50_EXECUTED);
+        end(&twins[n]);
+    }
+}
+
+/* A step after a call that changes the controller. */
+static void change(uda50 *it, int how)
+{
+    static uint8_t disk[BLOCK], held[UDA50_STATE_LENGTH];
+    uda50_image image = { disk, sizeof disk };
+    uda50_range area;
+    uint16_t vector;
+
+    switch (how) {
+    case 0: uda50_write_ip(it, 0); break;
+    case 1: uda50_read_ip(it); break;
+    case 2: uda50_write_sa(it, 0, memory, SIZE); break;
+    case 3: uda50_write_sa_mapped(it, 0, memory, SIZE, &(uda50_map){ .page = 9 }); break;
+    case 4: uda50_write_sa_at(it, 0, window, SIZE, false, &area); break;
+    case 5: uda50_take_interrupt(it, &vector); break;
+    case 6: uda50_attach(it, 1, &image, false); break;
+    case 7: uda50_detach(it, 1, &image); break;
+    case 8: uda50_set_type(it, 1, UDA50_RD54); break;
+    case 9: uda50_attach_called(it, 1, BLOCKS, false); break;
+    case 10: uda50_detach(it, 1, &(uda50_image){ NULL, 0 }); break;
+    case 11: uda50_inject_failure(it, 0, 0); break;
+    case 12: uda50_save(it, held, sizeof held); uda50_restore(it, held, sizeof held); break;
+    case 13: uda50_run_mapped(it, 0, memory, SIZE, &(uda50_map){ .page = 9 }); break;
+    case 14: uda50_run(it, 0, memory, SIZE); break;
+    case 15: uda50_turn(it, memory, SIZE - 1); break;
+    }
+}
+
+static void changed_controllers(void)
+{
+    for (int how = 0; how < 16; how++) {
+        uda50_turn_use turn;
+
+        begin(&uda, READ, &turn);
+        change(&uda, how);
+        all_refused(&uda, &turn, UDA50_STALE);
+    }
+}
+
+/* Calls that don't change the controller. */
+static void unchanged_controllers(void)
+{
+    static uint8_t line[96];
+    uda50_turn_record told = { .size = sizeof told };
+    uda50_unit unit = { .size = sizeof unit };
+    uda50_turn_use turn;
+    uda50_range area;
+    uda50_state port = { .size = sizeof port };
+
+    begin(&uda, READ, &turn);
+    EXPECT(uda50_save(&uda, state, sizeof state), UDA50_OK);
+    EXPECT(uda50_get_state(&uda, &port), UDA50_OK);
+    EXPECT(uda50_get_last_turn(&uda, &told), UDA50_OK);
+    EXPECT(uda50_get_unit(&uda, 0, &unit), UDA50_OK);
+    EXPECT(uda50_format_last_turn(&uda, line, sizeof line), UDA50_OK);
+    EXPECT(uda50_get_zeroed(&uda, 0, window, SIZE, &area), UDA50_OK);
+    EXPECT(uda50_read_sa(&uda), 0);
+    turn.ready = 3;
+    EXPECT(uda50_turn_at(&uda, window, SIZE, &turn), UDA50_BAD_LENGTH);
+    make_ready(&turn, 2);
+    EXPECT(end_turn(&uda, &turn), UDA50_EXECUTED);
+}
+
+/* Each step out of its order, and with a struct that is too short. */
+static void out_of_order(void)
+{
+    uda50_turn_use turn = { .size = sizeof turn, .controller = (uintptr_t)&uda }, began;
+    static uint8_t bytes[BLOCK];
+
+    begin(&uda, WRITE, &began);
+    all_refused(&uda, &turn, UDA50_STALE); /* a struct whose turn wasn't begun */
+    EXPECT(uda50_get_descriptors(&uda, window, SIZE, &turn), UDA50_OK);
+    EXPECT(uda50_get_written(&uda, window, SIZE, &turn, 0, bytes, BLOCK), UDA50_STALE);
+    EXPECT(uda50_turn_at(&uda, window, SIZE, &turn), UDA50_STALE);
+    turn.size--;
+    EXPECT(uda50_get_body(&uda, window, SIZE, &turn), UDA50_BAD_LENGTH);
+    EXPECT(uda50_get_descriptors(&uda, window, SIZE, &turn), UDA50_BAD_LENGTH);
+    turn.size += 9; /* as a later program has it */
+    EXPECT(uda50_get_body(&uda, window, SIZE, &turn), UDA50_OK);
+    EXPECT(uda50_get_body(&uda, window, SIZE, &turn), UDA50_STALE);
+    turn.size = sizeof turn - 1;
+    EXPECT(uda50_get_written(&uda, window, SIZE, &turn, 0, bytes, BLOCK), UDA50_BAD_LENGTH);
+    EXPECT(uda50_turn_at(&uda, window, SIZE, &turn), UDA50_BAD_LENGTH);
+    turn.size++;
+    EXPECT(uda50_get_written(&uda, window, SIZE, &turn, 0, bytes, BLOCK), UDA50_OK);
+    make_ready(&turn, 2);
+    EXPECT(end_turn(&uda, &turn), UDA50_EXECUTED);
+}
+
+/* After a reset the steps that are left are refused. The port is in step 1. */
 static void reset_between(uint8_t opcode)
 {
-    static uint8_t before[SIZE], bytes[2 * BLOCK], after[UDA50_STATE_LENGTH];
     uda50_turn_use turn;
-    uda50_blocks blocks = begin(&uda, opcode, &turn);
 
-    make_ready(opcode, 1, 1);
+    begin(&uda, opcode, &turn);
+    make_ready(&turn, 1);
     uda50_write_ip(&uda, 0);
-    make_ready(opcode, 2, 1);
-    EXPECT(uda50_get_written(&uda, window, SIZE, &turn, 0, bytes, BLOCK), UDA50_BAD_LENGTH);
-    EXPECT(uda50_get_blocks(&uda, window, SIZE, &turn, &blocks), UDA50_OK);
-    EXPECT(blocks.use, UDA50_NO_BLOCKS);
-    memcpy(before, memory, SIZE);
-    EXPECT(uda50_save(&uda, state, sizeof state), UDA50_OK);
+    all_refused(&uda, &turn, UDA50_STALE);
+    begin_turn(&uda, &turn);
+    EXPECT(turn.blocks.use, UDA50_NO_BLOCKS);
     EXPECT(end_turn(&uda, &turn), UDA50_IDLE);
-    EXPECT(memcmp(before, memory, SIZE), 0);
-    for (int n = 0; n < 4; n++)
-        EXPECT(turn.written[n].bytes, 0);
-    EXPECT(uda50_save(&uda, after, sizeof after), UDA50_OK);
-    EXPECT(memcmp(state, after, sizeof state), 0);
-    EXPECT(uda50_read_sa(&uda) & 0x0800, 0x0800); /* step 1 */
+    EXPECT(uda50_read_sa(&uda) & 0x0800, 0x0800);
 }
 
-/* A reset drops a command, and the guest gives the same one again. Blocks that were made ready for the first have no
-   effect on the second if uda50_get_blocks came after them. Blocks that are made ready after that call count for the
-   second: it ends as if the emulator had moved them. */
-static void ready_too_late(uint8_t opcode, uint32_t count)
+/* A reset drops a command, and the guest gives the same one again. Blocks that were moved for the first have no effect
+   on the second. */
+static void moved_too_late(uint8_t opcode, uint32_t count)
 {
-    uda50_turn_use turn;
-    uda50_turn_record told;
+    uda50_turn_use dropped, turn;
+    uda50_turn_record told = { .size = sizeof told };
 
-    begin(&uda, opcode, &turn);
-    make_ready(opcode, 1, 1);
+    begin(&uda, opcode, &dropped);
     uda50_write_ip(&uda, 0);
-    make_ready(opcode, 2, 1);
+    make_ready(&dropped, 2);
     begin(&uda, opcode, &turn);
-    if (count != 0)
-        make_ready(opcode, 1, count);
+    EXPECT(uda50_turn_at(&uda, window, SIZE, &dropped), UDA50_STALE);
+    make_ready(&turn, count);
     EXPECT(end_turn(&uda, &turn), UDA50_EXECUTED);
     EXPECT(uda50_get_last_turn(&uda, &told), UDA50_OK);
     EXPECT(told.status, count == 2 ? 0 : DRIVE_ERROR);
@@ -143,11 +289,19 @@ static void ready_too_late(uint8_t opcode, uint32_t count)
         EXPECT(memory[BUFFER + n], opcode == READ && n < count * BLOCK ? 0x55 : 0x11);
 }
 
-/* A turn without its last step has not happened: the next turn is the same. */
+/* A turn without its last step has not happened: the next turn is the same. What was moved is dropped with the struct. */
 static void left_out(void)
 {
     static uint8_t after[UDA50_STATE_LENGTH];
     uda50_turn_use turn, again;
+
+    begin(&uda, READ, &turn);
+    again = turn;
+    make_ready(&again, 2);
+    again.missing = 7;
+    EXPECT(uda50_get_descriptors(&uda, window, SIZE, &again), UDA50_OK);
+    EXPECT(uda50_get_body(&uda, window, SIZE, &again), UDA50_OK);
+    EXPECT(memcmp(&turn, &again, sizeof turn), 0);
 
     begin(&uda, READ, &turn);
     EXPECT(uda50_save(&uda, state, sizeof state), UDA50_OK);
@@ -157,22 +311,24 @@ static void left_out(void)
     EXPECT(memcmp(state, after, sizeof state), 0);
 }
 
-/* A Read of two blocks, of which the second fails. What the guest stores meanwhile in the place of that block is lost. */
+/* A Read of two blocks, of which the second fails. What the guest stores meanwhile in the place of that block stays. */
 static void store_between(void)
 {
-    static uint8_t bytes[BLOCK];
     uda50_turn_use turn;
-    uda50_turn_record told;
+    uda50_turn_record told = { .size = sizeof told };
 
     begin(&uda, READ, &turn);
-    EXPECT(uda50_lend_blocks(&uda, 0, 1, bytes, BLOCK), UDA50_OK);
+    make_ready(&turn, 1);
     memory[BUFFER + BLOCK] = 0x22;
     EXPECT(end_turn(&uda, &turn), UDA50_EXECUTED);
     EXPECT(uda50_get_last_turn(&uda, &told), UDA50_OK);
     EXPECT(told.status, DRIVE_ERROR);
     EXPECT(told.bytes, BLOCK);
-    EXPECT(memory[BUFFER], 0);
-    EXPECT(memory[BUFFER + BLOCK], 0x11);
+    EXPECT(memory[BUFFER], 0x55);
+    EXPECT(memory[BUFFER + BLOCK - 1], 0x55);
+    EXPECT(memory[BUFFER + BLOCK], 0x22);
+    EXPECT(turn.written[0].at, BUFFER);
+    EXPECT(turn.written[0].bytes, BLOCK);
 }
 
 /* Turns of two controllers, by turns over one window. */
@@ -186,7 +342,8 @@ static void one_after_the_other(void)
 
         memset(bytes, 0x30 + n, sizeof bytes);
         begin(it, READ, &turn);
-        EXPECT(uda50_lend_blocks(it, 0, 1, bytes, sizeof bytes), UDA50_OK);
+        turn.ready = 2;
+        turn.lent = (uda50_image){ bytes, sizeof bytes };
         EXPECT(end_turn(it, &turn), UDA50_EXECUTED);
         EXPECT(memory[BUFFER] == 0x30 + n && memory[BUFFER + 2 * BLOCK - 1] == 0x30 + n, true);
     }
@@ -217,8 +374,8 @@ static uint32_t write_blocks(void *context, uint32_t lbn, uint32_t count, const 
     return count;
 }
 
-/* Takes a turn of a machine in a child. Its called image changes the window at this address or, if it is 0, doesn't. Returns
-   how the child ended. */
+/* Takes a turn of a machine in a child. Its called image changes the window at this address or, if it is 0, doesn't.
+   Returns how the child ended. */
 static int ended_by(uint32_t address)
 {
     uda50_called image = { sizeof image, &address, NULL, write_blocks };
@@ -247,7 +404,8 @@ static void noticed_changes(void)
     EXPECT(ended_by(0), 0);
     EXPECT(ended_by(BUFFER), SIGABRT);
     EXPECT(ended_by(BUFFER + 2 * BLOCK - 1), SIGABRT);
-    EXPECT(ended_by(BASE + 8), SIGABRT);
+    EXPECT(ended_by(BASE + 4 * (RESPONSES + 1)), SIGABRT);
+    EXPECT(ended_by(BASE + 8), 0); /* the next response descriptor, at which the turn doesn't look */
     EXPECT(ended_by(BUFFER + 2 * BLOCK), 0);
 }
 #endif
@@ -259,9 +417,14 @@ int main(void)
     reset_between(READ);
     reset_between(WRITE);
     for (uint32_t count = 0; count <= 2; count++) {
-        ready_too_late(READ, count);
-        ready_too_late(WRITE, count);
+        moved_too_late(READ, count);
+        moved_too_late(WRITE, count);
     }
+    earlier_turns();
+    other_controllers();
+    changed_controllers();
+    unchanged_controllers();
+    out_of_order();
     left_out();
     store_between();
     one_after_the_other();

@@ -118,7 +118,10 @@ static bool start(void)
 
     place = 0;
     for (size_t i = 0; i < sizeof words / sizeof *words; i++)
-        uda50_write_sa(&uda, words[i], memory, SIZE);
+        if (take_turn == turn_of_array)
+            uda50_write_sa(&uda, words[i], memory, SIZE);
+        else
+            uda50_machine_write_sa(&uda, words[i], &mapped);
     return done(first[0], 0, 1) && done(first[1], 0, 1);
 }
 
@@ -164,9 +167,9 @@ int main(int argc, char **argv)
     blocks = images[0].at;
     for (uint32_t n = 0; n < SIZE >> 13; n++)
         registers[n] = n << 13;
+    take_turn = turn_of_mapped;
     if (uda50_new(&uda, true) != UDA50_OK || uda50_attach_called(&uda, 0, images[0].length / 512, true) != UDA50_OK || !start())
         return 2;
-    take_turn = turn_of_mapped;
     if (!measure("mapped, by calls", (uint32_t)atoi(argv[2])))
         return 1;
     uda50_free(&uda, (uda50_image[UDA50_UNITS]){{NULL, 0}});

@@ -103,8 +103,8 @@ static void with_a_rule_broken(rule broken)
     static const char *const names[RULE_COUNT] = { "none", "credits", "address", "response" };
     machine machine;
     driver driver = { &machine.bus, broken, 0, 0 };
-    uda50_state state;
-    uda50_turn_record last;
+    uda50_state state = { .size = sizeof state };
+    uda50_turn_record last = { .size = sizeof last };
     char line[96];
 
     if (!make(&machine))

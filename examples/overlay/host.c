@@ -45,10 +45,11 @@ static uint32_t write_blocks(void *context, uint32_t lbn, uint32_t count, const 
     return count;
 }
 
+static const uda50_called image = {sizeof image, bits, read_blocks, write_blocks};
+static const uda50_machine machine = {.size = sizeof machine, .memory = memory, .length = SIZE, .images = {&image}};
+
 static void post(const char *name, uint8_t opcode, uint8_t lbn)
 {
-    static const uda50_called image = {sizeof image, bits, read_blocks, write_blocks};
-    static const uda50_machine machine = {.size = sizeof machine, .memory = memory, .length = SIZE, .images = {&image}};
     const uint8_t posted[60] = {RESPONSE & 255, RESPONSE >> 8, 0, 0x80, COMMAND & 255, COMMAND >> 8, 0, 0x80, /* the rings */
                                 48, [20] = opcode, [25] = BLOCK >> 8, [29] = BUFFER >> 8, [40] = lbn};
     memcpy(memory + RINGS, posted, sizeof posted);
@@ -63,7 +64,7 @@ int main(int argc, char **argv)
         || uda50_attach_called(&uda, 0, BLOCKS, false) != UDA50_OK)
         return 1;
     for (int n = 0; n < 4; n++)
-        uda50_write_sa(&uda, (const uint16_t[]){0x8000, RINGS, 0, 1}[n], memory, SIZE);
+        uda50_machine_write_sa(&uda, (const uint16_t[]){0x8000, RINGS, 0, 1}[n], &machine);
     post("Online", 9, 0);
     post("Read", 33, 1);
     post("Read", 33, 2);

@@ -367,7 +367,7 @@ static void begin_anew(controller *it)
 t_stat rq_wr(int32 data, int32 address, int32 access)
 {
     controller *it = of_address(address);
-    uda50_state state;
+    uda50_state state = {.size = sizeof state};
 
     if (it == NULL)
         return SCPE_IERR;
@@ -383,7 +383,7 @@ t_stat rq_wr(int32 data, int32 address, int32 access)
 t_stat rq_step(UNIT *unit)
 {
     controller *it = of_unit(unit);
-    uda50_state state;
+    uda50_state state = {.size = sizeof state};
 
     write_sa(it, (uint16)it->word);
     if (uda50_get_state(&it->uda, &state) == UDA50_OK && state.vector != 0)
@@ -415,7 +415,7 @@ t_stat rq_turn(UNIT *unit)
     controller *it = of_unit(unit);
     uint32 kind = DEBUG_PRD(it->device) ? traced_turns(it) : run(it, (uint32)rq_turns);
     t_stat status = kind == UDA50_NO_MEMORY ? SCPE_MEM : it->error;
-    uda50_state state;
+    uda50_state state = {.size = sizeof state};
 
     it->error = SCPE_OK;
     request_interrupt(it);
@@ -428,7 +428,7 @@ t_stat rq_turn(UNIT *unit)
 
 static bool is_attention_due(controller *it)
 {
-    uda50_state state;
+    uda50_state state = {.size = sizeof state};
 
     return uda50_get_state(&it->uda, &state) == UDA50_OK && state.phase == UDA50_PHASE_RUNNING
            && state.attentions != 0;
@@ -735,7 +735,7 @@ static void show_ring(FILE *to, const char *name, uda50_ring ring)
 
 t_stat rq_show_rings(FILE *to, UNIT *unit, int32 value, void *desc)
 {
-    uda50_state state;
+    uda50_state state = {.size = sizeof state};
 
     if (uda50_get_state(&of_unit(unit)->uda, &state) != UDA50_OK)
         return SCPE_OK;

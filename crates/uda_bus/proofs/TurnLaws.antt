@@ -1,6 +1,6 @@
 -- The laws of ranges that are read from a bus and written on it, and of turns over them.
-use Rattle.std.proofs.Common.{◌≡◌, ◌↔◌, IsTrue, ℕ, ◌+◌, ◌-◌, ◌<◌, ◌≤◌, suc, min, Bool, true, false, List, [], ◌∷◌, length, get_or, take, drop, refl, sym, ap, ◌∙◌, subst, arith, length-drop, length-take}
-use Rattle.std.specs.Prelude.{All}
+use Rattle.std.proofs.Common.{◌≡◌, ◌↔◌, IsTrue, ℕ, ◌+◌, ◌-◌, ◌<◌, ◌≤◌, suc, min, Bool, true, false, List, [], ◌∷◌, length, get_or, take, drop, refl, sym, ap, ap₂, ◌∙◌, subst, arith, length-drop, length-take}
+use Rattle.std.specs.Prelude.{All, if◌then◌else◌}
 use Rattle.std.proofs.Math.Bool.{not}
 use borrow.Rule.Slice.PartMut.{put_mid}
 use Rattle.std.proofs.Math.Seq.{drop-cons}
@@ -8,18 +8,20 @@ use Rattle.std.proofs.lemmas.List.{drop_all}
 use Rattle.std.proofs.lemmas.List.Elements.{All-head, All-tail}
 use Rattle.uda_mem.specs.declared.range.ByteRange.{ByteRange}
 use Rattle.uda_mem.specs.Put.{put, part}
-use Rattle.uda_mem.specs.Ranges.{EMPTY_RANGE, LiesIn, SameIn, carried, range_in}
+use Rattle.uda_mem.specs.Ranges.{EMPTY_RANGE, LiesIn, SameIn, carried}
 use Rattle.uda_mem.proofs.PutLaws.{length-put, put_mid-put, put-nil}
 use Rattle.uda_mem.proofs.RangeLaws.{length-carried}
+use Rattle.uda_port.specs.declared.memory_use.MemoryUse.{MemoryUse}
 use Rattle.uda_port.specs.declared.memory_use.Missing.{Missing}
 use Rattle.uda_port.specs.declared.turn_at.TurnTaken.{TurnTaken}
 use Rattle.uda_port.specs.Interrupt.{ring_before}
 use Rattle.uda_port.specs.Port.{PortState}
-use Rattle.uda_port.specs.Ring.{descriptor_address}
-use Rattle.uda_port.specs.MemoryUse.{descriptor_ranges, use_of, written_of, Agrees, AgreesInDescriptors, IsLocal, IsPlace}
+use Rattle.uda_port.specs.Ring.{RingState, descriptor_address}
+use Rattle.uda_port.specs.Plan.{looks_at_commands, looks_at_responses}
+use Rattle.uda_port.specs.MemoryUse.{looked_at, command_range, response_range, descriptor_ranges, use_of, newest_count, writable_of, written_of, Agrees, AgreesInDescriptors, IsLocal, IsPlace}
 use Rattle.uda_bus.specs.declared.map.BusMap.{BusMap}
 use Rattle.uda_bus.specs.Bytes.{shown, stored, AllLead}
-use Rattle.uda_bus.specs.Turns.{bus_memory, stored_ranges, TellsMissing, IsMissing, TurnsThroughMap}
+use Rattle.uda_bus.specs.Turns.{bus_memory, body_read, stored_ranges, TellsMissing, IsMissing, TurnsThroughMap}
 use Rattle.uda_bus.proofs.ShownLaws.{length-shown, part_shown}
 use Rattle.uda_bus.proofs.CarriedLaws.{carried_agrees, carried_same, all_same-sym, all_same-trans, all_kept}
 
@@ -78,12 +80,12 @@ told_at map memory rs others i whole same is =
     subst (λ (r : List ByteRange). TellsMissing map memory (range_at r i) (not whole)) same
     (tells_missing map memory (range_at rs i) whole is)
 
--- the same of a range of another memory of this length
-pub tells_missing-in : (map : BusMap) (memory bus window : List ℕ) (at : ℕ) (flag : Bool)
-    → length bus ≡ length window → TellsMissing map memory (range_in window at 4) flag
-    → TellsMissing map memory (range_in bus at 4) flag
-tells_missing-in map memory bus window at flag long tells =
-    subst (λ n. TellsMissing map memory (record { at = at; bytes = min 4 (n - at) }) flag) (sym long) tells
+-- the range of a descriptor depends on the length of memory alone
+looked_length : (looks : Bool) (memory other : List ℕ) (r : RingState) → length other ≡ length memory
+    → looked_at looks other r ≡ looked_at looks memory r
+looked_length true memory other r long =
+    ap (λ (n : ℕ). record { at = descriptor_address r; bytes = min 4 (n - descriptor_address r) }) long
+looked_length false memory other r long = refl
 
 -- ---- ranges in a row
 
@@ -142,11 +144,16 @@ length-read map memory window new r size long reads =
 ranges_of_length : (port : PortState) (memory other : List ℕ) → length other ≡ length memory
     → descriptor_ranges port other ≡ descriptor_ranges port memory
 ranges_of_length port memory other long =
-    let clipped : ℕ → ℕ → ByteRange = λ n at. record { at = at; bytes = min 4 (n - at) } in
-    ap (λ n. clipped n (descriptor_address port.commands)
-    ∷ clipped n (descriptor_address (ring_before port.commands))
-    ∷ clipped n (descriptor_address port.responses)
-    ∷ clipped n (descriptor_address (ring_before port.responses)) ∷ []) long
+    let commands = looks_at_commands port in
+    let responses = looks_at_responses port in
+    ap₂ (λ (a b : ByteRange). a ∷ b ∷ looked_at responses other port.responses
+    ∷ looked_at responses other (ring_before port.responses) ∷ [])
+    (looked_length commands memory other port.commands long)
+    (looked_length commands memory other (ring_before port.commands) long)
+    ∙ ap₂ (λ (a b : ByteRange). command_range port memory ∷ looked_at commands memory (ring_before port.commands)
+    ∷ a ∷ b ∷ [])
+    (looked_length responses memory other port.responses long)
+    (looked_length responses memory other (ring_before port.responses) long)
 
 module _ (port : PortState) (map : BusMap) (memory window : List ℕ) where
   abbrev pub bus : List ℕ
@@ -188,12 +195,16 @@ module _ (port : PortState) (map : BusMap) (memory window : List ℕ) where
             (all_same-sym all bus w4 shared);
       }
 
-  module _ (place : ℕ) (w1 w2 : List ℕ) (body : ByteRange) where
-    pub used_agree : length w1 ≡ length window → AgreesInDescriptors port w1 bus
-        → ((other : List ℕ) → AgreesInDescriptors port w1 other → (use_of port other place).body ≡ body)
-        → Reads map memory w1 body w2 → Agrees port place w2 bus
-    used_agree long agrees same_body reads =
+  module _ (place : ℕ) (w1 w2 : List ℕ) (uses : MemoryUse) (long : length w1 ≡ length window)
+      (agrees : AgreesInDescriptors port w1 bus)
+      (same_body : (other : List ℕ) → AgreesInDescriptors port w1 other → (use_of port other place).body ≡ uses.body)
+      (same_reads : (other : List ℕ) → AgreesInDescriptors port w1 other
+      → (use_of port other place).reads_body ≡ uses.reads_body) where
+    -- a body that is read
+    body_agrees : Reads map memory w1 uses.body w2 → Agrees port place w2 bus
+    body_agrees reads =
         let all = descriptor_ranges port w1 in
+        let body = uses.body in
         let same : length w1 ≡ length bus = long ∙ sym length-bus in
         let read : w2 ≡ carried (body ∷ []) bus w1 =
         read_as map memory w1 w2 body (length window) long reads in
@@ -215,38 +226,60 @@ module _ (port : PortState) (map : BusMap) (memory window : List ℕ) where
           same_descriptors =
               subst (All (SameIn w2 bus)) (sym (ranges_of_length port w1 w2 kept))
               (all_same-sym all bus w2 after);
-          same_body = subst (SameIn w2 bus) (sym (same_body w2 fits)) here;
+          same_body = λ reads. subst (SameIn w2 bus) (sym (same_body w2 fits)) here;
         }
 
-    pub is_missing : (commands responses whole : Bool) → AgreesInDescriptors port w1 bus
-        → ((other : List ℕ) → AgreesInDescriptors port w1 other → (use_of port other place).body ≡ body)
-        → TellsMissing map memory (range_in window (descriptor_address port.commands) 4) commands
-        → TellsMissing map memory (range_in window (descriptor_address port.responses) 4) responses
-        → IsTrue whole ↔ AllLead map memory body.at body.bytes
+    -- a body that isn't read
+    unread_agrees : uses.reads_body ≡ false → Agrees port place w1 bus
+    unread_agrees unread =
+        let itself : AgreesInDescriptors port w1 w1 =
+        record { same_length = refl; same_descriptors = λ k d less. refl } in
+        record {
+          same_length = agrees.same_length;
+          same_descriptors = agrees.same_descriptors;
+          same_body = λ reads. let no : false ≡ true = sym unread ∙ sym (same_reads w1 itself) ∙ reads in absurd (cc);
+        }
+
+    pub used_agree : w2 ≡ body_read uses (bus_memory map (length w1) memory) w1 → Agrees port place w2 bus
+    used_agree read = by uses.reads_body refl
+      where
+        by : (reads : Bool) → uses.reads_body ≡ reads → Agrees port place w2 bus
+        by true is = body_agrees (read ∙ ap (λ (reads : Bool).
+            if reads then carried (uses.body ∷ []) (bus_memory map (length w1) memory) w1 else w1) is)
+        by false is =
+            subst (λ (w : List ℕ). Agrees port place w bus)
+            (sym (read ∙ ap (λ (reads : Bool).
+            if reads then carried (uses.body ∷ []) (bus_memory map (length w1) memory) w1 else w1) is)) (unread_agrees is)
+
+    pub is_missing : (commands responses whole : Bool) → TellsMissing map memory (command_range port window) commands
+        → TellsMissing map memory (response_range port window) responses
+        → IsTrue whole ↔ AllLead map memory uses.body.at uses.body.bytes
         → IsMissing map (length window) (port, memory) place
         (record { commands = commands; responses = responses; body = not whole })
-    is_missing commands responses whole agrees same_body told told' leads = record {
+    is_missing commands responses whole told told' leads = record {
       commands =
-          tells_missing-in map memory bus window (descriptor_address port.commands) commands length-bus told;
+          subst (λ (r : ByteRange). TellsMissing map memory r commands)
+          (sym (looked_length (looks_at_commands port) window bus port.commands length-bus)) told;
       responses =
-          tells_missing-in map memory bus window (descriptor_address port.responses) responses length-bus
-          told';
+          subst (λ (r : ByteRange). TellsMissing map memory r responses)
+          (sym (looked_length (looks_at_responses port) window bus port.responses length-bus)) told';
       body =
           subst (λ (r : ByteRange). TellsMissing map memory r (not whole)) (sym (same_body bus agrees))
-          (tells_missing map memory body whole leads);
+          (tells_missing map memory uses.body whole leads);
     }
 
   pub turns_through_map : (place : ℕ) (missing : Missing) (w2 w3 : List ℕ) (taken : TurnTaken)
       (after : PortState × List ℕ) → IsPlace port.exec.pending place
       → IsMissing map (length window) (port, memory) place missing → Agrees port place w2 bus
       → IsLocal missing place (port, w2) taken (after.0, w3)
-      → ((other : List ℕ) → Agrees port place w2 other → taken.written ≡ written_of missing port other place)
+      → ((other : List ℕ) → Agrees port place w2 other
+      → taken.written ≡ written_of missing (port, other) place (newest_count after.0))
       → after.1 ≡ stored_ranges map taken.written w3 memory
       → TurnsThroughMap map (length window) (port, memory) taken.turn after
   turns_through_map place missing w2 w3 taken after is_place is_missing agrees local is_written stores =
       let written = taken.written in
       let bus_after = carried written w3 bus in
-      let kept : length w3 ≡ length w2 = ap length local.only ∙ length-carried written w3 w2 in
+      let kept : length w3 ≡ length w2 = ap length local.only ∙ length-carried (writable_of missing port w2 place) w3 w2 in
       let shared : All (SameIn w3 bus_after) written =
       carried_agrees written w3 bus (agrees.same_length ∙ sym kept) in
       record {

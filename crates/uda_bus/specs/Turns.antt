@@ -1,15 +1,15 @@
 -- Turns of a port over memory through map registers, and words that are written to its SA.
 -- PDP-11 UNIBUS map, VAX UNIBUS adapter, Q-bus map: map registers. UDA50 Programmer's Documentation Kit:
 -- UNIBUS addresses.
-use Rattle.std.specs.Prelude.{◌≡◌, ◌↔◌, ℕ, Bool, false, List, [], ◌∷◌}
+use Rattle.std.specs.Prelude.{◌≡◌, ◌↔◌, ℕ, Bool, false, List, [], ◌∷◌, if◌then◌else◌}
 use Rattle.uda_mem.specs.declared.range.ByteRange.{ByteRange}
 use Rattle.uda_mem.specs.Put.{part}
-use Rattle.uda_mem.specs.Ranges.{range_in, carried}
+use Rattle.uda_mem.specs.Ranges.{carried}
+use Rattle.uda_port.specs.declared.memory_use.MemoryUse.{MemoryUse}
 use Rattle.uda_port.specs.declared.memory_use.Missing.{Missing}
 use Rattle.uda_port.specs.declared.turn.Turn.{Turn}
 use Rattle.uda_port.specs.Port.{PortState}
-use Rattle.uda_port.specs.Ring.{descriptor_address}
-use Rattle.uda_port.specs.MemoryUse.{use_of, written_of, EffectWithout, IsPlace}
+use Rattle.uda_port.specs.MemoryUse.{command_range, response_range, use_of, newest_count, written_of, EffectWithout, IsPlace}
 use Rattle.uda_port.specs.StartupUse.{range_zeroed, range_written, WordEffect}
 use Rattle.uda_bus.specs.declared.map.BusMap.{BusMap}
 use Rattle.uda_bus.specs.Bytes.{shown, stored, AllLead}
@@ -24,17 +24,19 @@ stored_ranges map [] bus memory = memory
 stored_ranges map (r ∷ rest) bus memory =
     stored_ranges map rest bus (stored map memory r.at (part bus r.at r.bytes))
 
+-- a window after the body of a turn was read into it, if the turn reads it
+abbrev pub body_read : MemoryUse → List ℕ → List ℕ → List ℕ
+body_read uses bus window = if uses.reads_body then carried (uses.body ∷ []) bus window else window
+
 -- a flag is set exactly if an address of a range leads nowhere
 abbrev pub TellsMissing : BusMap → List ℕ → ByteRange → Bool → Type 0
 TellsMissing map memory r flag = (flag ≡ false) ↔ AllLead map memory r.at r.bytes
 
--- which of the ranges that a turn reads have an address that leads nowhere
+-- which of the ranges that a turn uses have an address that leads nowhere
 pub record IsMissing (map : BusMap) (size : ℕ) (before : PortState × List ℕ) (place : ℕ)
     (missing : Missing) : Type 0 where
-  pub commands : TellsMissing map before.1
-      (range_in (bus_memory map size before.1) (descriptor_address before.0.commands) 4) missing.commands
-  pub responses : TellsMissing map before.1
-      (range_in (bus_memory map size before.1) (descriptor_address before.0.responses) 4) missing.responses
+  pub commands : TellsMissing map before.1 (command_range before.0 (bus_memory map size before.1)) missing.commands
+  pub responses : TellsMissing map before.1 (response_range before.0 (bus_memory map size before.1)) missing.responses
   pub body : TellsMissing map before.1 (use_of before.0 (bus_memory map size before.1) place).body
       missing.body
 
@@ -48,7 +50,8 @@ pub record TurnsThroughMap (map : BusMap) (size : ℕ) (before : PortState × Li
   pub bus_after : List ℕ
   pub is_place : IsPlace before.0.exec.pending place
   pub is_missing : IsMissing map size before place missing
-  pub is_written : written ≡ written_of missing before.0 (bus_memory map size before.1) place
+  pub is_written :
+      written ≡ written_of missing (before.0, bus_memory map size before.1) place (newest_count after.0)
   pub effect : EffectWithout missing place (before.0, bus_memory map size before.1) turn (after.0, bus_after)
   pub only : bus_after ≡ carried written bus_after (bus_memory map size before.1)
   pub memory_is : after.1 ≡ stored_ranges map written bus_after before.1

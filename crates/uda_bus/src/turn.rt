@@ -2,15 +2,14 @@
 ghost use Rattle.std.specs.Prelude.{◌≡◌, ◌↔◌, ◌%◌, ◌^◌, ◌≤◌, [], ◌∷◌, All, length, IsTrue};
 ghost use Rattle.std.specs.Prelude.{IsOk, IfOk, IfErr};
 ghost use Rattle.uda_mem.specs.Put.{part};
-ghost use Rattle.uda_mem.specs.Ranges.{range_in, LiesIn, carried};
+ghost use Rattle.uda_mem.specs.Ranges.{LiesIn, carried};
 ghost use Rattle.uda_mem.specs.Slices.{IsMemory};
 ghost use Rattle.uda_disk.specs.Units.{AreWellFormed};
-ghost use Rattle.uda_port.specs.MemoryUse.{Agrees, AgreesInDescriptors};
+ghost use Rattle.uda_port.specs.MemoryUse.{command_range, response_range, Agrees, AgreesInDescriptors};
 ghost use Rattle.uda_port.specs.Port.{CreditsAgree};
-ghost use Rattle.uda_port.specs.Ring.{descriptor_address};
 ghost use Rattle.uda_port.specs.Trace.{Traces, turn_of};
 ghost use Rattle.uda_bus.specs.Bytes.{stored, AllLead};
-ghost use Rattle.uda_bus.specs.Turns.{bus_memory, stored_ranges, IsMissing, TurnsThroughMap, WritesSaThroughMap};
+ghost use Rattle.uda_bus.specs.Turns.{bus_memory, body_read, stored_ranges, IsMissing, TurnsThroughMap, WritesSaThroughMap};
 ghost use Rattle.uda_bus.specs.Turns.{TellsMissing};
 
 use crate::map::BusMap;
@@ -18,7 +17,7 @@ use std::alloc::Global;
 use std::marker::Model;
 use uda_image::BlockStore;
 use uda_mem::{ByteRange, NoMemory};
-use uda_port::{BusTurn, Missing, Port, Trace, Turn};
+use uda_port::{BusTurn, MemoryUse, Missing, Port, Trace, Turn};
 
 /// The memory of a bus as a port sees it for a turn: as many bytes as the bus has addresses.
 #[derive(Debug, Drop)]
@@ -70,8 +69,9 @@ impl BusMap<'_> {
     /// Runs one turn of a port over memory through these map registers. The bus has as many addresses as the
     /// window has bytes, and nothing else in the window matters.
     ///
-    /// What the turn reads is read from the bus first, and what it wrote is then written to the bus in its
-    /// order. A descriptor, packet or buffer with an address that leads nowhere is as at the end of memory.
+    /// What the turn reads is read from the bus first: the descriptors of the rings at which it looks, and a packet
+    /// or a buffer, but not a Read's. What it wrote is then written to the bus in its order. A descriptor, packet or
+    /// buffer with an address that leads nowhere is as at the end of memory.
     ///
     /// UDA50 Programmer's Documentation Kit: command ring polling, UNIBUS addresses.
     pub fn turn<S: BlockStore>(
@@ -176,8 +176,8 @@ impl BusMap<'_> {
         ensures length { length window.new ≡ length window.old }
     {
         let missing = self.read_descriptors(port, memory, window);
-        let body = port.memory_use(window, place).body;
-        let whole = self.read_range(memory, body, window);
+        let uses = port.memory_use(window, place);
+        let whole = self.read_body(memory, &uses, window);
         Missing {
             body: !whole,
             ..missing
@@ -194,10 +194,8 @@ impl BusMap<'_> {
         requires window { IsMemory window.old }
         ensures agrees { AgreesInDescriptors port.now window.new
             (bus_memory self.now (length window.old) memory.now) }
-        ensures commands { TellsMissing self.now memory.now
-            (range_in window.old (descriptor_address port.now.commands) 4) result.commands }
-        ensures responses { TellsMissing self.now memory.now
-            (range_in window.old (descriptor_address port.now.responses) 4) result.responses }
+        ensures commands { TellsMissing self.now memory.now (command_range port.now window.old) result.commands }
+        ensures responses { TellsMissing self.now memory.now (response_range port.now window.old) result.responses }
         ensures length { length window.new ≡ length window.old }
     {
         let [command, command_before, response, response_before] = port.descriptor_ranges(window);
@@ -209,6 +207,22 @@ impl BusMap<'_> {
             commands,
             responses,
             body: false,
+        }
+    }
+
+    // Reads the body of a turn into a window, if the turn reads it. Returns whether each of its addresses leads to
+    // a byte of memory.
+    fn read_body(&self, memory: &[u8], uses: &MemoryUse, window: &mut [u8]) -> bool
+        requires within { LiesIn window.old uses.now.body }
+        ensures window { window.new
+            ≡ body_read uses.now (bus_memory self.now (length window.old) memory.now) window.old }
+        ensures length { length window.new ≡ length window.old }
+        ensures whole { IsTrue result ↔ AllLead self.now memory.now uses.now.body.at uses.now.body.bytes }
+    {
+        if uses.reads_body {
+            self.read_range(memory, uses.body, window)
+        } else {
+            self.leads(memory, uses.body.at, uses.body.bytes)
         }
     }
 

@@ -1,7 +1,7 @@
 -- A unit whose image is changed: its drive is removed, changed and put back, and all else is unchanged.
 use Rattle.std.specs.Prelude.{Result, Ok, Err, is_ok, IfOk, IfErr, length, ◌+◌, ◌/◌, ◌%◌, ◌≤◌}
 use Rattle.std.proofs.Common.{◌≡◌, ◌≢◌, ℕ, Bool, true, false, List, subst, set, Option, Some, None, refl, sym, ap, ap₂, ◌∙◌}
-use Rattle.std.specs.Prelude.{option_map, slice_get, unwrap_or, nat_lt, nat_le, is_some, if◌then◌else◌}
+use Rattle.std.specs.Prelude.{option_map, slice_get, unwrap_or, nat_lt, nat_le, is_some, ◌||◌, if◌then◌else◌}
 use Rattle.std.proofs.lemmas.List.{set-set, set-get_or}
 use Rattle.std.proofs.lemmas.Option.{slice_get_within, slice_get-map, unwrap_or-slice_get}
 use Rattle.uda_disk.proofs.Slots.{slice_get-set_same}
@@ -9,17 +9,16 @@ use Rattle.uda_disk.specs.declared.mode.Mode.{Mode}
 use Rattle.uda_disk.specs.Units.{UnitState}
 use Rattle.uda_exec.specs.declared.drive_unit.UnitInfo.{UnitInfo}
 use Rattle.uda_exec.specs.Drives.{DriveState, drive_in, fresh_unit, returned_drive, info_of, info_at, in_mode, with_drive}
-use Rattle.uda_port.specs.Port.{PortState}
+use Rattle.uda_port.specs.Port.{PortState, read_only_at}
 use Rattle.uda_c.specs.declared.call_status.CallStatus.TheVariants.{Done, NoSuchUnit, NotAttached, NoMemory, OtherKind}
 use Rattle.uda_c.specs.ControllerState.{ControllerState}
 use Rattle.uda_image.specs.Store.{StoreState}
 use Rattle.uda_called.specs.CalledImage.{none_ready}
 use Rattle.uda_c.specs.declared.block_range.Prepared.{Prepared}
 use Rattle.uda_c.specs.declared.call_status.CallStatus.{CallStatus}
-use Rattle.uda_exec.specs.declared.block_use.BlockUse.{BlockUse}
-use Rattle.uda_c.specs.BlockRange.{LendsBlocks, AllowsBlocks, size_in, size_at, lend_answer_in, allow_answer_in, controller_begun}
+use Rattle.uda_c.specs.BlockRange.{LendsBlocks, AllowsBlocks, size_in, size_at, lend_answer_in, allow_answer_in, with_none_ready}
 use Rattle.uda_c.specs.UnitImage.{store_failing, store_lent, store_begun, store_prepared, lend_answer, allow_answer, is_called, is_called_in, LentAnswer, PreparedAnswer, status_of}
-use Rattle.uda_c.specs.Controllers.{FailsAt, unit_with, with_store, port_put_back, has_image, unit_answer, failing_answer, is_called_at}
+use Rattle.uda_c.specs.Controllers.{FailsAt, SetsProtection, unit_protected, port_protected, unit_with, with_store, port_put_back, has_image, unit_answer, failing_answer, is_called_at}
 
 -- a unit with a mode and a size has a drive
 pub record Seen (slot : Option (Option UnitState)) (look : UnitInfo) : Type 0 where
@@ -93,6 +92,41 @@ store_changes old u change look drive changed out new e given changes out_is new
     record old { port = record old.port { exec = record old.port.exec { units = units } } })
     (unit_changes old.port.exec.units u change look drive changed e given changes)
 
+-- the same of a drive whose hardware write protection is changed
+unit_protects : (units : List (Option UnitState)) (u : ℕ) (hard : Bool) (look : UnitInfo) (drive changed : DriveState)
+    (mode : Mode)
+    → info_at (slice_get units u) ≡ Some look → Some drive ≡ returned_drive units u None
+    → changed.store ≡ drive.store → mode ≡ record look.mode { hard = hard }
+    → put_back units u changed mode ≡ set units u
+    (option_map (unit_protected hard) (unwrap_or (slice_get units u) None))
+unit_protects units u hard look drive changed mode e back kept mode_is =
+    let s = seen (slice_get units u) look e in
+    let drive_is : drive ≡ drive_in s.unit =
+    ap (λ (o : Option DriveState). unwrap_or o drive) (back ∙ handed units u s.unit s.here) in
+    let b : Option UnitState = Some (fresh_unit changed) in
+    let got : slice_get (set units u b) u ≡ Some b =
+    slice_get-set_same units u b (slice_get_within units u (Some s.unit) s.here) in
+    let store = kept ∙ ap (λ (d : DriveState). d.store) drive_is in
+    let moded = mode_is ∙ ap (λ (l : UnitInfo). record l.mode { hard = hard }) s.look_is in
+    ap (λ (xs : List (Option UnitState)). set xs u (in_mode mode (unwrap_or (slice_get xs u) None)))
+    (set-set units u None b)
+    ∙ ap (λ (o : Option (Option UnitState)). set (set units u b) u (in_mode mode (unwrap_or o None))) got
+    ∙ set-set units u b (in_mode mode b)
+    ∙ ap (set units u) (ap₂ (λ x y. Some (record { store = x; mode = y })) store moded)
+    ∙ ap (λ (o : Option (Option UnitState)). set units u (option_map (unit_protected hard) (unwrap_or o None)))
+    (sym s.here)
+
+pub protection_changes : (old : PortState) (u : ℕ) (hard : Bool) (look : UnitInfo) (drive changed : DriveState)
+    (mode : Mode) (out new : PortState)
+    → info_at (slice_get old.exec.units u) ≡ Some look → Some drive ≡ returned_drive old.exec.units u None
+    → changed.store ≡ drive.store → mode ≡ record look.mode { hard = hard }
+    → out ≡ record old { exec = with_drive old.exec u None } → new ≡ port_put_back out u changed mode
+    → new ≡ port_protected old u hard
+protection_changes old u hard look drive changed mode out new e given kept mode_is out_is new_is =
+    new_is ∙ ap (λ (p : PortState). port_put_back p u changed mode) out_is
+    ∙ ap (λ (units : List (Option UnitState)). record old { exec = record old.exec { units = units } })
+    (unit_protects old.exec.units u hard look drive changed mode e given kept mode_is)
+
 -- a store that isn't changed
 same_unit : (o : Option UnitState) → option_map (unit_with (λ (s : StoreState). s)) o ≡ o
 same_unit None = refl
@@ -112,6 +146,17 @@ pub has_status : (old : ControllerState) (u : ℕ) (look : UnitInfo) → nat_lt 
 has_status old u look there e =
     ap (λ b. if b then NoSuchUnit else if has_image old u then Done else NotAttached) there
     ∙ ap (λ (o : Option UnitInfo). if is_some o then Done else NotAttached) e
+
+-- the call that moves the write-protect button
+pub protects : (old : ControllerState) (u : ℕ) (asked : Bool) (look : UnitInfo) (new : PortState) → nat_lt 3 u ≡ false
+    → info_at (slice_get old.port.exec.units u) ≡ Some look
+    → new ≡ port_protected old.port u (read_only_at old.port u || asked)
+    → SetsProtection old u asked Done (record old { port = new })
+protects old u asked look new there e is = record {
+  answer_is = sym (has_status old u look there e);
+  set = λ _. ap (λ (p : PortState). record old { port = p }) is;
+  refused = λ no. absurd (no refl);
+}
 
 failing_status : (old : ControllerState) (u : ℕ) (look : UnitInfo) → nat_lt 3 u ≡ false
     → info_at (slice_get old.port.exec.units u) ≡ Some look
@@ -179,14 +224,14 @@ lend_answer_is old u first bytes look drive e back =
 
 pub allow_answer_is : (old : ControllerState) (u count : ℕ) (way : Prepared) (look : UnitInfo) (drive : DriveState)
     → info_at (slice_get old.port.exec.units u) ≡ Some look → Some drive ≡ returned_drive old.port.exec.units u None
-    → allow_answer way count drive.store ≡ allow_answer_in (Some way) count (slice_get old.port.exec.units u)
+    → allow_answer way count drive.store ≡ allow_answer_in way count (slice_get old.port.exec.units u)
 allow_answer_is old u count way look drive e back =
     let units = old.port.exec.units in
     let s = seen (slice_get units u) look e in
     let drive_is : drive ≡ drive_in s.unit =
     ap (λ (o : Option DriveState). unwrap_or o drive) (back ∙ handed units u s.unit s.here) in
     ap (λ (d : DriveState). allow_answer way count d.store) drive_is
-    ∙ sym (ap (allow_answer_in (Some way) count) s.here)
+    ∙ sym (ap (allow_answer_in way count) s.here)
 
 -- ---- blocks that are made ready
 
@@ -243,10 +288,10 @@ prepared_faithful false way count store = refl
 pub allows : (old : ControllerState) (u count : ℕ) (way : Prepared) (made : Result Unit CallStatus)
     (answer : CallStatus) (new : ControllerState)
     → unit_answer old u ≡ Done → PreparedAnswer (is_called_at old u) (status_of made)
-    → status_of made ≡ allow_answer_in (Some way) count (slice_get old.port.exec.units u)
+    → status_of made ≡ allow_answer_in way count (slice_get old.port.exec.units u)
     → IfOk made (λ _. count ≤ size_at old u) → IfErr made (λ status. status ≢ Done) → answer ≡ status_of made
     → new ≡ with_store old u (store_prepared (is_ok made) way count)
-    → AllowsBlocks old (u, count) (Some way) answer new
+    → AllowsBlocks old (u, count) way answer new
 allows old u count way (Ok done) answer new there kind answers fits fails is goes = record {
   no_image = λ no. absurd (no there);
   kind = λ _. subst (PreparedAnswer (is_called_at old u)) (sym is) kind;
@@ -281,13 +326,13 @@ begun_faithful first store = go (nat_le first store.size)
     go true = refl
     go false = refl
 
--- the image of a unit that C reads and writes
-pub begins : (old : ControllerState) (used : BlockUse) (new : ControllerState) → is_called_at old used.unit ≡ true
-    → new ≡ with_store old used.unit (store_begun used.first) → new ≡ controller_begun old (Some used)
-begins old used new called goes =
-    goes ∙ sym (ap (λ b. if b then with_store old used.unit (store_begun used.first) else old) called)
+-- the image of a unit that C reads and writes, or another one
+pub begins : (old : ControllerState) (u first : ℕ) (new : ControllerState) → is_called_at old u ≡ true
+    → new ≡ with_store old u (store_begun first) → new ≡ with_none_ready old u first
+begins old u first new called goes =
+    goes ∙ sym (ap (λ b. if b then with_store old u (store_begun first) else old) called)
 
-pub begins_not : (old : ControllerState) (used : BlockUse) → is_called_at old used.unit ≡ false
-    → old ≡ controller_begun old (Some used)
-begins_not old used called =
-    sym (ap (λ b. if b then with_store old used.unit (store_begun used.first) else old) called)
+pub begins_not : (old : ControllerState) (u first : ℕ) → is_called_at old u ≡ false
+    → old ≡ with_none_ready old u first
+begins_not old u first called =
+    sym (ap (λ b. if b then with_store old u (store_begun first) else old) called)

@@ -1,6 +1,6 @@
 -- The units of a controller are faithful, and remain so after each call of its port.
 use Rattle.uda_c.specs.ControllerState.{ControllerState}
-use Rattle.uda_c.specs.Controllers.{unit_with, with_store}
+use Rattle.uda_c.specs.Controllers.{unit_with, with_store, unit_protected, port_protected}
 use Rattle.uda_image.specs.Store.{StoreState}
 use Rattle.std.proofs.Common.{◌≡◌, ℕ, zero, suc, Bool, true, false, List, [], ◌∷◌, set, Option, Some, None, refl, sym, ap, ◌∙◌}
 use Rattle.std.specs.Prelude.{option_map, slice_get, unwrap_or, if◌then◌else◌}
@@ -223,6 +223,19 @@ pub changed_faithful : (old new : ControllerState) (u : ℕ) (change : StoreStat
 changed_faithful old new u change is keeps all k =
     ap (λ (c : ControllerState). is_faithful (slice_get c.port.exec.units k)) is
     ∙ set_faithful old.port.exec.units u _ (changed change (slice_get old.port.exec.units u) keeps (all u)) all k
+
+guarded : (hard : Bool) (o : Option (Option UnitState)) → is_faithful o ≡ true
+    → is_faithful (Some (option_map (unit_protected hard) (unwrap_or o None))) ≡ true
+guarded hard (Some (Some unit)) h = h
+guarded hard (Some None) h = refl
+guarded hard None h = refl
+
+-- a unit whose write-protect button is moved
+pub protected_faithful : (old new : PortState) (u : ℕ) (hard : Bool) → new ≡ port_protected old u hard
+    → AllFaithful old.exec.units → AllFaithful new.exec.units
+protected_faithful old new u hard is all k =
+    ap (λ (p : PortState). is_faithful (slice_get p.exec.units k)) is
+    ∙ set_faithful old.exec.units u _ (guarded hard (slice_get old.exec.units u) (all u)) all k
 
 pub none_faithful : (u : ℕ) → is_faithful (slice_get (None ∷ None ∷ None ∷ None ∷ []) u) ≡ true
 none_faithful zero = refl

@@ -7,7 +7,7 @@ use Rattle.uda_disk.proofs.Slots.{slice_get-set_same, slice_get-set_other}
 use Rattle.uda_disk.specs.declared.mode.Mode.{Mode}
 use Rattle.uda_disk.specs.Units.{UnitState, Units, FixedAttributes, attributes_of, unit_attributes}
 use Rattle.uda_exec.specs.declared.drive_unit.UnitInfo.{UnitInfo}
-use Rattle.uda_exec.specs.Drives.{DriveState, drive_in, fresh_unit, reset_unit, info_of, info_at}
+use Rattle.uda_exec.specs.Drives.{DriveState, drive_in, fresh_unit, reset_unit, info_of, info_at, with_drive}
 use Rattle.uda_exec.specs.Saved.{unit_fits as unit_fits_image, units_fit, infos_of, units_restored, has_commands}
 use Rattle.uda_packet.specs.declared.drive_type.DriveType.{DriveType}
 use Rattle.uda_packet.specs.declared.drive_type.DriveType.TheVariants.{Ra81}
@@ -26,7 +26,7 @@ use Rattle.uda_port.specs.declared.profile.Profile.TheVariants.{Strict, Compatib
 use Rattle.uda_port.specs.declared.turn.Turn.{Turn}
 use Rattle.uda_port.specs.Guest.{is_due, attention_set, is_online_now}
 use Rattle.uda_port.specs.Message.{message_in, flags_kept}
-use Rattle.uda_port.specs.Port.{PortState, port_restarted, port_after_ip_read, port_with_drive, drive_put, read_only_by, attention_due, with_type}
+use Rattle.uda_port.specs.Port.{PortState, port_restarted, port_after_ip_read, port_with_drive, drive_put, read_only_by, read_only_at, attention_due, with_type}
 use Rattle.uda_port.specs.Possible.{has_run, is_of_turn, CanDie}
 use Rattle.uda_port.specs.declared.saved.Saved.{Saved}
 use Rattle.uda_port.specs.declared.saved.RestoreError.{RestoreError}
@@ -41,7 +41,7 @@ use Rattle.uda_port.specs.MemoryUse.{fate_of, CanFail, EffectBy, EffectWithout}
 use Rattle.uda_port.specs.StartupUse.{WordEffect}
 use Rattle.uda_port.proofs.MemoryUseLaws.{fate_fails, running_fails}
 use Rattle.uda_c.specs.ControllerState.{ControllerState}
-use Rattle.uda_c.specs.Controllers.{controller_at_start, unit_with, with_store}
+use Rattle.uda_c.specs.Controllers.{controller_at_start, unit_with, with_store, unit_protected, port_protected}
 use Rattle.uda_image.specs.Store.{StoreState}
 use Rattle.uda_c.specs.Fits.{UnitNotice, unit_fits, notice_of, fits_at, is_as_attached, can_rest, image_fits, FitsController, numbers_fit, fits_in, fits_controller}
 use Rattle.uda_c.proofs.FaithfulUnits.{turn_natures, effect_natures}
@@ -657,6 +657,56 @@ pub typed_exec : (set_it : Bool) (old new : PortState) (u : ℕ) (kind : DriveTy
     → new ≡ (if set_it then with_type old u kind else old) → new.exec ≡ old.exec
 typed_exec true old new u kind is = ap (λ (p : PortState). p.exec) is
 typed_exec false old new u kind is = ap (λ (p : PortState). p.exec) is
+
+-- ---- the write-protect button
+
+rests_as_before : (profile : Profile) (mode : Mode) (hard : Bool) → can_rest profile mode ≡ true
+    → can_rest profile (record mode { hard = hard }) ≡ true
+rests_as_before Strict mode hard is = is
+rests_as_before (Compatible identity) mode hard is = refl
+
+protected_slot : (profile : Profile) (phase : Phase) (n : UnitNotice) (hard : Bool) (slot : Option (Option UnitState))
+    → (not (read_only_by profile (Some n.kind)) || hard) ≡ true → unit_fits profile phase n (info_at slot) ≡ true
+    → unit_fits profile phase n (info_at (Some (option_map (unit_protected hard) (unwrap_or slot None)))) ≡ true
+protected_slot profile phase n hard (Some (Some unit)) may is =
+    let parts = parts_of profile phase n (info_of unit) is in
+    fits_of profile phase n (info_of (unit_protected hard unit)) (record {
+      hard = may;
+      run = parts.run;
+      told = parts.told;
+      rests = rests_as_before profile unit.mode hard parts.rests;
+    })
+protected_slot profile phase n hard (Some None) may is = is
+protected_slot profile phase n hard None may is = is
+
+protected_at : (old : PortState) (u : ℕ) (asked : Bool) → u < length old.exec.units → (k : ℕ)
+    → fits_at old k ≡ true → (k ≡ u) ⊎ (k ≢ u)
+    → fits_at (port_protected old u (read_only_at old u || asked)) k ≡ true
+protected_at old u asked within k fits (inl same) =
+    let hard = read_only_at old u || asked in
+    let slot = slice_get-set_same old.exec.units u
+    (option_map (unit_protected hard) (unwrap_or (slice_get old.exec.units u) None)) within in
+    let fits_here : fits_at old u ≡ true = subst (λ (j : ℕ). fits_at old j ≡ true) same fits in
+    subst (λ (j : ℕ). fits_at (port_protected old u hard) j ≡ true) (sym same)
+    (rw slot (protected_slot old.profile old.phase (notice_of old.guest.types old.guest.attentions u) hard
+    (slice_get old.exec.units u) (protected_by old.profile old.guest.types u asked) fits_here))
+protected_at old u asked within k fits (inr other) =
+    let hard = read_only_at old u || asked in
+    let slot = slice_get-set_other old.exec.units u k
+    (option_map (unit_protected hard) (unwrap_or (slice_get old.exec.units u) None)) other in
+    rw slot fits
+
+-- a unit whose drive was removed is one of four
+pub protected_fits : (old out new : PortState) (u : ℕ) (asked : Bool) → length out.exec.units ≡ 4 → u ≤ 3
+    → out ≡ record old { exec = with_drive old.exec u None }
+    → new ≡ port_protected old u (read_only_at old u || asked) → FitsController old → FitsController new
+protected_fits old out new u asked four low out_is is fits =
+    let same = ap (λ (p : PortState). length p.exec.units) out_is ∙ length-set old.exec.units u None in
+    let within : u < length old.exec.units = omega (arith, four, same, low) in
+    subst FitsController (sym is) (record {
+      numbers = fits.numbers;
+      units = λ k less. protected_at old u asked within k (fits.units k less) (cases_eq k u);
+    })
 
 -- ---- changed stores
 

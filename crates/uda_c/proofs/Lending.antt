@@ -22,7 +22,7 @@ use Rattle.uda_c.specs.BorrowedImage.{IsWhole}
 use Rattle.uda_c.specs.UnitImage.{lent_state, zero_state, bytes_of_store}
 use Rattle.uda_c.specs.BlockRange.{AttachesCalled, size_answer}
 use Rattle.uda_c.specs.Slots.{empty_slot, lent_in, slot_of, is_empty, are_empty}
-use Rattle.uda_c.specs.Controllers.{Lending, Attaches, Detaches, MakesNew, OnHandle, GivesBack, Frees, image_answer, image_in, has_image, lent_drive}
+use Rattle.uda_c.specs.Controllers.{Lending, Attaches, Detaches, MakesNew, OnHandle, GivesBack, Frees, image_answer, image_in, has_image, lent_drive, any_called}
 
 -- a unit that gets an image has it
 attached : (units : List (Option UnitState)) (u : ℕ) (lending : Lending) → u < length units
@@ -110,19 +110,21 @@ controller_stays None new profile is has stays = let no : false ≡ true = sym i
 
 -- the calls that return a unit's image
 pub detaches : (old : ControllerState) (u : ℕ) (look : UnitInfo) (slot after : Slot)
-    (drive : DriveState) (new : PortState)
+    (drive : DriveState) (new : PortState) (called : Bool)
     → u ≤ 3 → info_at (slice_get old.port.exec.units u) ≡ Some look → slot.held ≡ []
     → Some drive ≡ returned_drive old.port.exec.units u None
     → after.held ≡ unwrap_or (bytes_of_store drive.store) [] → new ≡ port_with_drive old.port u None
-    → Detaches (old, slot) u Done (record old { port = new }, after)
-detaches old u look slot after drive new low e empty back are is =
+    → called ≡ any_called new.exec.units
+    → Detaches (old, slot) u Done (record old { port = new; called = called }, after)
+detaches old u look slot after drive new called low e empty back are is called_is =
     let units = old.port.exec.units in record {
       answer_is = sym (ap (λ b. if b then NoSuchUnit else if has_image old u then
           (if length slot.held == 0 then Done else NotEmpty) else NotAttached) (le-ltb 3 u low)
           ∙ ap (λ (o : Option UnitInfo).
           if is_some o then (if length slot.held == 0 then Done else NotEmpty) else NotAttached) e
           ∙ ap (λ (bytes : List ℕ). if length bytes == 0 then Done else NotEmpty) empty);
-      detached = λ _. ap (λ (p : PortState). record old { port = p }) is;
+      detached = λ _. ap (λ (b : Bool). record old { port = new; called = b }) called_is
+          ∙ ap (λ (p : PortState). record old { port = p; called = any_called p.exec.units }) is;
       given_back = λ _. given_back units u look drive after.held e back are;
       refused = λ no. absurd (no refl);
     }
@@ -177,12 +179,12 @@ stays_whole (Some a) images answer None after gives refused = absurd gives
 pub attaches_called : (old : ControllerState) (u blocks : ℕ) (hard : Bool) (store : StoreState) (new : PortState)
     → u ≤ 3 → has_image old u ≡ false → size_answer blocks ≡ Done → store ≡ zero_state blocks
     → new ≡ port_with_drive old.port u (Some (record { store = store; hard = hard }))
-    → AttachesCalled old (u, (blocks, hard)) Done (record old { port = new })
+    → AttachesCalled old (u, (blocks, hard)) Done (record old { port = new; called = true })
 attaches_called old u blocks hard store new low free fits store_is new_is = record {
   answer_is = sym (ap (λ b. if b then NoSuchUnit else if has_image old u then AlreadyAttached else size_answer blocks)
       (le-ltb 3 u low)
       ∙ ap (λ b. if b then AlreadyAttached else size_answer blocks) free ∙ fits);
-  attached = λ _. ap (λ (p : PortState). record old { port = p }) (new_is
+  attached = λ _. ap (λ (p : PortState). record old { port = p; called = true }) (new_is
       ∙ ap (λ (s : StoreState). port_with_drive old.port u (Some (record { store = s; hard = hard }))) store_is);
   refused = λ no. absurd (no refl);
 }

@@ -4,6 +4,7 @@ mod Crosses
 mod HandleCrosses
 pub mod Images
 pub mod RunLaws
+pub mod CalledUnits
 pub mod FailingUnits
 pub mod Lending
 pub mod FaithfulUnits

@@ -8,7 +8,7 @@ use Rattle.uda_port.specs.declared.memory_use.Missing.{Missing}
 use Rattle.uda_port.specs.declared.trace.Trace.{Trace}
 use Rattle.uda_port.specs.declared.turn.Turn.{Turn}
 use Rattle.uda_port.specs.declared.turn_at.TurnTaken.{TurnTaken}
-use Rattle.uda_port.specs.MemoryUse.{Agrees, EffectWithout, IsLocal, written_of}
+use Rattle.uda_port.specs.MemoryUse.{Agrees, EffectWithout, IsLocal, newest_count, written_of}
 use Rattle.uda_port.specs.Port.{PortState}
 use Rattle.uda_port.specs.Trace.{turn_of, Traces}
 use Rattle.uda_c.specs.declared.call_status.CallStatus.TheVariants.{RanTurn}
@@ -23,7 +23,7 @@ module _ (old : ControllerState) (memory : List ℕ) (asked : TurnUse) (missing 
   itself = record {
     same_length = refl;
     same_descriptors = λ k d less. refl;
-    same_body = refl;
+    same_body = λ reads. refl;
   }
 
   pub takes_at : missing ≡ missing_of asked.missing
@@ -31,11 +31,11 @@ module _ (old : ControllerState) (memory : List ℕ) (asked : TurnUse) (missing 
       → EffectWithout missing place (old.port, memory) taken.turn (port, after)
       → IsLocal missing place (old.port, memory) taken (port, after) → All (LiesIn memory) taken.written
       → ((other : List ℕ) → Agrees old.port place memory other
-      → taken.written ≡ written_of missing old.port other place)
+      → taken.written ≡ written_of missing (old.port, other) place (newest_count port))
       → ChangesOnly (blocks_of missing old.port memory place) (block_bytes_of missing old.port memory place)
       old.port.exec.units port.exec.units → taken.turn ≡ turn_of trace → Traces trace old.port port
       → TakesTurnAt (old, memory) asked (RanTurn taken.turn) (record asked { written = taken.written })
-      (record { port = port; last = Some trace }, after)
+      (record old { port = port; last = Some trace }, after)
   takes_at is_missing asks goes local within written blocks turn tells =
       let by_bits : EffectWithout (missing_of asked.missing) place (old.port, memory) taken.turn (port, after) =
       subst (λ (m : Missing). EffectWithout m place (old.port, memory) taken.turn (port, after)) is_missing goes in
@@ -47,6 +47,7 @@ module _ (old : ControllerState) (memory : List ℕ) (asked : TurnUse) (missing 
         place = place;
         answer_is = ap RanTurn turn;
         last_is = refl;
+        rest_stays = refl;
         tells = tells;
         filled_is = refl;
         place_is = asks;
@@ -59,7 +60,7 @@ module _ (old : ControllerState) (memory : List ℕ) (asked : TurnUse) (missing 
             (λ (t : Turn). IsLocal (missing_of asked.missing) place (old.port, memory) (with_turn t) (port, after))
             turn local_by_bits;
         written_is = written memory itself
-            ∙ ap (λ (m : Missing). written_of m old.port memory place) is_missing;
+            ∙ ap (λ (m : Missing). written_of m (old.port, memory) place (newest_count port)) is_missing;
         within = within;
         used_blocks =
             subst

@@ -1,23 +1,17 @@
 -- The blocks that the next turn uses of an image that C reads and writes, and how C makes them ready.
-use Rattle.std.specs.Prelude.{◌≡◌, ◌≢◌, ℕ, ◌+◌, ◌*◌, ◌≤◌, ◌==◌, ◌/◌, ◌%◌, ◌↔◌, Bool, true, List, length, Option, Some, None}
-use Rattle.std.specs.Prelude.{nat_lt, slice_get, IfSome, if◌then◌else◌}
-use Rattle.uda_mem.specs.Put.{part}
-use Rattle.uda_mem.specs.Slices.{IsMemory}
+use Rattle.std.specs.Prelude.{◌≡◌, ◌≢◌, ℕ, ◌+◌, ◌≤◌, ◌==◌, ◌/◌, ◌%◌, Bool, true, List, length, Option, Some, None}
+use Rattle.std.specs.Prelude.{nat_lt, slice_get, if◌then◌else◌}
 use Rattle.uda_image.specs.Limits.{store_limit}
 use Rattle.uda_exec.specs.declared.block_use.BlockAccess.{BlockAccess}
 use Rattle.uda_exec.specs.declared.block_use.BlockAccess.TheVariants.{Reads, Checks, Writes}
 use Rattle.uda_exec.specs.declared.block_use.BlockUse.{BlockUse}
 use Rattle.uda_exec.specs.Drives.{DriveState}
-use Rattle.uda_port.specs.BlockUse.{blocks_of, block_bytes_of}
 use Rattle.uda_c.specs.declared.block_range.Prepared.{Prepared}
-use Rattle.uda_c.specs.declared.block_range.Prepared.TheVariants.{Checked, Written}
 use Rattle.uda_c.specs.declared.block_range.BlockRange.{BlockRange}
 use Rattle.uda_c.specs.declared.call_status.CallStatus.{CallStatus}
-use Rattle.uda_c.specs.declared.call_status.CallStatus.TheVariants.{Done, NoSuchUnit, AlreadyAttached, NotAttached, NoMemory, BadLength, TooLarge, OtherKind}
-use Rattle.uda_c.specs.declared.turn_use.TurnUse.{TurnUse}
+use Rattle.uda_c.specs.declared.call_status.CallStatus.TheVariants.{Done, NoSuchUnit, AlreadyAttached, NotAttached, NoMemory, BadLength, TooLarge}
 use Rattle.uda_c.specs.ControllerState.{ControllerState}
-use Rattle.uda_c.specs.Controllers.{controller_with, has_image, unit_answer, is_called_at, with_store, memory_refusal}
-use Rattle.uda_c.specs.TurnUse.{missing_of, IsPlaceOf}
+use Rattle.uda_c.specs.Controllers.{controller_with, has_image, unit_answer, is_called_at, with_store}
 use Rattle.uda_disk.specs.Units.{UnitState}
 use Rattle.uda_c.specs.UnitImage.{store_lent, zero_state, store_begun, lend_answer, allow_answer, store_prepared, LentAnswer, PreparedAnswer}
 
@@ -34,10 +28,10 @@ range_of used =
 abbrev pub NO_BLOCKS : BlockRange
 NO_BLOCKS = record { access = 0; unit = 0; first = 0; count = 0 }
 
--- how C made blocks ready that it doesn't lend, by its number
-abbrev pub prepared_numbered : ℕ → Option Prepared
-prepared_numbered number =
-    if number == 2 then Some Checked else if number == 3 then Some Written else None
+-- the use with this number
+abbrev pub access_numbered : ℕ → Option BlockAccess
+access_numbered number =
+    if number == 1 then Some Reads else if number == 2 then Some Checks else if number == 3 then Some Writes else None
 
 -- ---- an image that C reads and writes
 
@@ -57,7 +51,8 @@ called_drive blocks hard = record { store = zero_state blocks; hard = hard }
 pub record AttachesCalled (old : ControllerState) (image : ℕ × (ℕ × Bool)) (answer : CallStatus)
     (new : ControllerState) : Type 0 where
   pub answer_is : answer ≡ called_answer old image.0 image.1.0
-  pub attached : answer ≡ Done → new ≡ controller_with old image.0 (Some (called_drive image.1.0 image.1.1))
+  pub attached : answer ≡ Done
+      → new ≡ record (controller_with old image.0 (Some (called_drive image.1.0 image.1.1))) { called = true }
   pub refused : answer ≢ Done → new ≡ old
 
 -- ---- the blocks that the next turn uses
@@ -67,47 +62,13 @@ abbrev pub range_reported : ControllerState → Option BlockUse → BlockRange
 range_reported c None = NO_BLOCKS
 range_reported c (Some used) = if is_called_at c used.unit then range_of used else NO_BLOCKS
 
--- of such an image none is ready then, and what is made ready next is so from the first of these blocks on
-abbrev pub controller_begun : ControllerState → Option BlockUse → ControllerState
-controller_begun c None = c
-controller_begun c (Some used) =
-    if is_called_at c used.unit then with_store c used.unit (store_begun used.first) else c
+-- of a unit's image that C reads and writes no block is ready, and what is made ready next is so from this block on
+abbrev pub with_none_ready : ControllerState → ℕ → ℕ → ControllerState
+with_none_ready c unit first = if is_called_at c unit then with_store c unit (store_begun first) else c
 
--- the range is that of the blocks which the turn with this command uses, and none of them is ready
-pub record ReportsBlocks (c : ControllerState) (memory : List ℕ) (asked : TurnUse)
-    (after : ControllerState × BlockRange) : Type 0 where
-  pub place : ℕ
-  pub place_is : IsPlaceOf c asked place
-  pub range_is : after.1 ≡ range_reported c (blocks_of (missing_of asked.missing) c.port memory place)
-  pub begun : after.0 ≡ controller_begun c (blocks_of (missing_of asked.missing) c.port memory place)
-
--- in invalid memory nothing changes
-pub record GetsBlocks (before : ControllerState × BlockRange) (memory : List ℕ) (asked : TurnUse)
-    (answer : CallStatus) (after : ControllerState × BlockRange) : Type 0 where
-  pub reports : IsMemory memory → (answer ≡ Done) × ReportsBlocks before.0 memory asked after
-  pub refuses : (IsMemory memory → ⊥) → (answer ≡ memory_refusal memory) × (after ≡ before)
-
--- as many bytes are written to blocks after the first of them
-abbrev pub HasPart : List ℕ → ℕ → ℕ → Type 0
-HasPart bytes skip count = 512 * skip + count ≤ length bytes
-
--- the bytes that the turn with this command writes to blocks, after the first of them, if there are as many
-pub record CopiesWritten (c : ControllerState) (memory : List ℕ) (asked : TurnUse × ℕ) (answer : CallStatus)
-    (copied : List ℕ × List ℕ) : Type 0 where
-  pub place : ℕ
-  pub place_is : IsPlaceOf c asked.0 place
-  pub fits : (answer ≡ Done)
-      ↔ HasPart (block_bytes_of (missing_of asked.0.missing) c.port memory place) asked.1 (length copied.0)
-  pub done : answer ≡ Done → copied.1
-      ≡ part (block_bytes_of (missing_of asked.0.missing) c.port memory place) (512 * asked.1)
-      (length copied.0)
-  pub refused : answer ≢ Done → (answer ≡ BadLength) × (copied.1 ≡ copied.0)
-
--- in invalid memory nothing changes
-pub record GetsWritten (c : ControllerState) (memory : List ℕ) (asked : TurnUse × ℕ) (answer : CallStatus)
-    (copied : List ℕ × List ℕ) : Type 0 where
-  pub copies : IsMemory memory → CopiesWritten c memory asked answer copied
-  pub refuses : (IsMemory memory → ⊥) → (answer ≡ memory_refusal memory) × (copied.1 ≡ copied.0)
+-- the same of the unit of these blocks, if there are any
+abbrev pub blocks_dropped : ControllerState → BlockRange → ControllerState
+blocks_dropped c blocks = if blocks.count == 0 then c else with_none_ready c blocks.unit blocks.first
 
 -- ---- blocks that C makes ready
 
@@ -125,10 +86,9 @@ lend_answer_in first bytes (Some (Some unit)) = lend_answer first bytes unit.sto
 lend_answer_in first bytes _ = NotAttached
 
 -- the status of making the next blocks of a unit's image ready which C prepared in this way
-abbrev pub allow_answer_in : Option Prepared → ℕ → Option (Option UnitState) → CallStatus
-allow_answer_in None count unit = OtherKind
-allow_answer_in (Some prepared) count (Some (Some unit)) = allow_answer prepared count unit.store
-allow_answer_in (Some prepared) count _ = NotAttached
+abbrev pub allow_answer_in : Prepared → ℕ → Option (Option UnitState) → CallStatus
+allow_answer_in prepared count (Some (Some unit)) = allow_answer prepared count unit.store
+allow_answer_in prepared count _ = NotAttached
 
 -- blocks of a unit's image are lent from one on: they are whole blocks of it; or nothing changes
 pub record LendsBlocks (old : ControllerState) (place : ℕ × ℕ) (from : List ℕ) (answer : CallStatus)
@@ -143,19 +103,13 @@ pub record LendsBlocks (old : ControllerState) (place : ℕ × ℕ) (from : List
   pub lent : answer ≡ Done → new ≡ with_store old place.0 (store_lent true place.1 from)
   pub refused : answer ≢ Done → new ≡ old
 
--- the status of a call that makes blocks ready which C prepared in this way
-abbrev pub AllowAnswer : Option Prepared → Bool → CallStatus → Type 0
-AllowAnswer None called answer = answer ≡ OtherKind
-AllowAnswer (Some prepared) called answer = PreparedAnswer called answer
-
 -- the next blocks of a unit's image are ready, which C prepared in this way: the image has as many; or nothing changes
-pub record AllowsBlocks (old : ControllerState) (asked : ℕ × ℕ) (prepared : Option Prepared)
+pub record AllowsBlocks (old : ControllerState) (asked : ℕ × ℕ) (prepared : Prepared)
     (answer : CallStatus) (new : ControllerState) : Type 0 where
   pub no_image : unit_answer old asked.0 ≢ Done → answer ≡ unit_answer old asked.0
-  pub kind : unit_answer old asked.0 ≡ Done → AllowAnswer prepared (is_called_at old asked.0) answer
+  pub kind : unit_answer old asked.0 ≡ Done → PreparedAnswer (is_called_at old asked.0) answer
   pub answers : unit_answer old asked.0 ≡ Done
       → answer ≡ allow_answer_in prepared asked.1 (slice_get old.port.exec.units asked.0)
   pub fits : answer ≡ Done → asked.1 ≤ size_at old asked.0
-  pub allowed : answer ≡ Done
-      → IfSome prepared (λ way. new ≡ with_store old asked.0 (store_prepared true way asked.1))
+  pub allowed : answer ≡ Done → new ≡ with_store old asked.0 (store_prepared true prepared asked.1)
   pub refused : answer ≢ Done → new ≡ old

@@ -1,5 +1,5 @@
 -- The effects of C's calls on a controller and on a handle.
-use Rattle.std.specs.Prelude.{◌≡◌, ◌≢◌, ℕ, ◌/◌, ◌%◌, ◌==◌, ◌||◌, Bool, true}
+use Rattle.std.specs.Prelude.{◌≡◌, ◌≢◌, ℕ, ◌+◌, ◌/◌, ◌%◌, ◌^◌, ◌==◌, ◌||◌, Bool, true}
 use Rattle.std.specs.Prelude.{false, List, [], ◌∷◌, Option, Some, None, slice_get}
 use Rattle.std.specs.Prelude.{nat_lt, length, is_some, option_map, set, unwrap_or, if◌then◌else◌}
 use Rattle.uda_mem.specs.Slices.{IsMemory}
@@ -52,6 +52,15 @@ OnHandle None None without with = without
 OnHandle (Some old) (Some new) without with = with old new
 OnHandle _ _ without with = ⊥
 
+-- the controller after one more call that changes it, as its count says
+abbrev pub raised : ControllerState → ControllerState
+raised c = record c { count = (c.count + 1) % 2 ^ 64 }
+
+-- The effect of a call that changes the controller of a handle. It first raises the count.
+abbrev pub OnRaised : Option ControllerState → Option ControllerState → Type 0
+    → (ControllerState → ControllerState → Type 0) → Type 0
+OnRaised old new without with = OnHandle old new without (λ c after. with (raised c) after)
+
 -- the invariant of the port of every controller that a handle has, before and after a call
 abbrev pub HoldsValid : Option ControllerState → Type 0
 HoldsValid None = Unit
@@ -68,6 +77,9 @@ abbrev pub controller_at_start : Profile → ControllerState
 controller_at_start profile = record {
   port = port_at_start profile (basic_exec (None ∷ None ∷ None ∷ None ∷ []) []);
   last = None;
+  called = false;
+  count = 0;
+  number = 0;
 }
 
 -- whether a unit has an image
@@ -98,6 +110,12 @@ unit_answer c unit =
 -- whether C reads and writes a unit's image by calls of its own
 abbrev pub is_called_at : ControllerState → ℕ → Bool
 is_called_at c unit = is_called_in (slice_get c.port.exec.units unit)
+
+-- whether C so reads and writes the image of any of the four units
+abbrev pub any_called : List (Option UnitState) → Bool
+any_called units =
+    is_called_in (slice_get units 0) || (is_called_in (slice_get units 1)
+    || (is_called_in (slice_get units 2) || is_called_in (slice_get units 3)))
 
 -- the status of a call that makes a call of a unit's image fail
 abbrev pub failing_answer : ControllerState → ℕ → CallStatus
@@ -140,6 +158,12 @@ abbrev pub controller_with : ControllerState → ℕ → Option DriveState → C
 controller_with c unit drive =
     record c { port = port_with_drive c.port unit drive }
 
+-- the controller without a drive in that unit
+abbrev pub controller_without : ControllerState → ℕ → ControllerState
+controller_without c unit = record (controller_with c unit None) {
+  called = any_called (port_with_drive c.port unit None).exec.units;
+}
+
 -- whether the type of a handle's unit is read-only
 abbrev pub is_read_only : Option ControllerState → ℕ → Bool
 is_read_only None unit = false
@@ -164,7 +188,7 @@ pub record Attaches (old : Exchange) (unit : ℕ) (hard : Bool) (answer : CallSt
 -- the slot gets a unit's image as the commands left it; or nothing changes
 pub record Detaches (old : Exchange) (unit : ℕ) (answer : CallStatus) (new : Exchange) : Type 0 where
   pub answer_is : answer ≡ detach_answer old.0 unit (length old.1.held)
-  pub detached : answer ≡ Done → new.0 ≡ controller_with old.0 unit None
+  pub detached : answer ≡ Done → new.0 ≡ controller_without old.0 unit
   pub given_back : answer ≡ Done → option_map (λ image. image.bytes) (image_at old.0 unit) ≡ Some new.1.held
   pub refused : answer ≢ Done → new ≡ old
 
@@ -258,11 +282,33 @@ pub record FailsAt (old : ControllerState) (unit : ℕ) (call : Option ℕ) (ans
   pub fails : answer ≡ Done → new ≡ controller_failing old unit call
   pub refused : answer ≢ Done → new ≡ old
 
+-- ---- the write-protect button of a drive
+
+-- a unit with this hardware write protection, otherwise unchanged
+abbrev pub unit_protected : Bool → UnitState → UnitState
+unit_protected hard unit = record unit { mode = record unit.mode { hard = hard } }
+
+-- the port whose unit has this hardware write protection
+abbrev pub port_protected : PortState → ℕ → Bool → PortState
+port_protected port u hard = record port {
+  exec = record port.exec {
+    units = set port.exec.units u (option_map (unit_protected hard) (unwrap_or (slice_get port.exec.units u) None));
+  };
+}
+
+-- the button protects a unit's image or not, but one of a read-only type stays protected; or nothing changes
+pub record SetsProtection (old : ControllerState) (unit : ℕ) (hard : Bool) (answer : CallStatus)
+    (new : ControllerState) : Type 0 where
+  pub answer_is : answer ≡ unit_answer old unit
+  pub set : answer ≡ Done
+      → new ≡ record old { port = port_protected old.port unit (read_only_at old.port unit || hard) }
+  pub refused : answer ≢ Done → new ≡ old
+
 -- the guest writes SA
 pub record WritesSa (old : ControllerState) (memory : List ℕ) (word : ℕ) (new : ControllerState)
     (memory_after : List ℕ) : Type 0 where
   pub steps : (new.port, memory_after) ≡ after_sa_write old.port.phase old.port memory word
-  pub last_stays : new.last ≡ old.last
+  pub rest_stays : new ≡ record old { port = new.port }
 
 -- a turn of the port in valid memory, which is stored as the last
 pub record TakesTurn (old : ControllerState) (memory : List ℕ) (answer : CallStatus) (new : ControllerState)
@@ -270,6 +316,7 @@ pub record TakesTurn (old : ControllerState) (memory : List ℕ) (answer : CallS
   pub trace : Trace
   pub answer_is : answer ≡ RanTurn (turn_of trace)
   pub last_is : new.last ≡ Some trace
+  pub rest_stays : new ≡ record old { port = new.port; last = new.last }
   pub goes : TurnEffect old.port.phase old.port memory (turn_of trace) new.port memory_after
   pub tells : Traces trace old.port new.port
 

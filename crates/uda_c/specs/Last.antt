@@ -18,10 +18,23 @@ use Rattle.uda_c.specs.declared.last.TurnRecord.{TurnRecord}
 use Rattle.uda_c.specs.declared.call_status.CallStatus.{CallStatus}
 use Rattle.uda_c.specs.declared.call_status.CallStatus.TheVariants.{Done, NoMemory}
 
+-- the number of bytes of the struct
+abbrev pub TURN_RECORD_SIZE : ℕ
+TURN_RECORD_SIZE = 32
+
 -- a turn without a command: its number, and the code of the fatal error
 abbrev pub told_number : ℕ → ℕ → TurnRecord
 told_number kind code =
-    record { kind = kind; reference = 0; lbn = 0; bytes = 0; unit = 0; code = code; status = 0 }
+    record {
+      size = TURN_RECORD_SIZE;
+      kind = kind;
+      reference = 0;
+      lbn = 0;
+      bytes = 0;
+      unit = 0;
+      code = code;
+      status = 0;
+    }
 
 -- the first block of a transfer, and its bytes
 abbrev pub told_lbn : Option Transfer → ℕ
@@ -35,6 +48,7 @@ told_count None = 0
 -- a fetched command
 abbrev pub told_command : GuestCommand → TurnRecord
 told_command g = record {
+  size = TURN_RECORD_SIZE;
   kind = 1;
   reference = g.command.reference;
   lbn = told_lbn (transfer_of g.command.op);
@@ -53,6 +67,7 @@ told_bytes _ = 0
 -- a turn with an end message
 abbrev pub told_end : ℕ → Reply → TurnRecord
 told_end kind e = record {
+  size = TURN_RECORD_SIZE;
   kind = kind;
   reference = e.reference;
   lbn = 0;

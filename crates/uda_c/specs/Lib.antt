@@ -14,8 +14,10 @@ pub mod Saving
 pub mod TurnUse
 pub mod Snapshot
 pub mod Last
+pub mod Inspection
 pub mod Runs
 pub mod Maps
 pub mod UnitImage
 pub mod UnitImageLaws
 pub mod BlockRange
+pub mod Steps

@@ -49,6 +49,7 @@ pub record TakesTurnThroughMap (bus : MappedBus) (before : Machine) (answer : Ca
   pub trace : Trace
   pub answer_is : answer ≡ RanTurn (turn_of trace)
   pub last_is : after.0.last ≡ Some trace
+  pub rest_stays : after.0 ≡ record before.0 { port = after.0.port; last = after.0.last }
   pub tells : Traces trace before.0.port after.0.port
   pub goes : TurnsThroughMap bus.map bus.size (before.0.port, before.1) (turn_of trace) (after.0.port, after.1)
 
@@ -72,7 +73,7 @@ pub record WritesSaOver (bus : MappedBus) (before : Machine) (word : ℕ) (answe
     : Type 0 where
   pub answer_is : answer ≡ Done
   pub steps : WritesSaThroughMap bus.map bus.size (before.0.port, before.1) word (after.0.port, after.1)
-  pub last_stays : after.0.last ≡ before.0.last
+  pub rest_stays : after.0 ≡ record before.0 { port = after.0.port }
 
 -- bytes that a bus shows from an address on, and whether each address leads to a byte of memory
 pub record ReadsBus (bus : MappedBus) (memory : List ℕ) (address : ℕ) (answer : CallStatus) (copied : List ℕ × List ℕ)

@@ -4,13 +4,18 @@ use Rattle.uda_mem.specs.Slices.{IsMemory}
 use Rattle.uda_port.specs.declared.turn.Turn.{Turn}
 use Rattle.uda_port.specs.declared.turn.Turn.TheVariants as turn
 use Rattle.uda_c.specs.declared.call_status.CallStatus.{CallStatus}
-use Rattle.uda_c.specs.declared.call_status.CallStatus.TheVariants.{Done, RanTurn}
+use Rattle.uda_c.specs.declared.call_status.CallStatus.TheVariants.{Done, RanTurn, OtherKind}
 use Rattle.uda_c.specs.ControllerState.{ControllerState}
 use Rattle.uda_c.specs.Controllers.{TakesTurn, RefusesMemory}
 
 -- a controller, and the guest's memory
 abbrev pub Machine : Type 0
 Machine = ControllerState × List ℕ
+
+-- the call is refused by a controller that has an image which C reads and writes, and nothing changes
+pub record UnlessCalled (old : Machine) (answer : CallStatus) (new : Machine) (Does : Type 0) : Type 0 where
+  pub refuses : old.0.called ≡ true → (answer ≡ OtherKind) × (new ≡ old)
+  pub does : old.0.called ≡ false → Does
 
 -- a turn of a port that is idle or dead
 abbrev pub does_nothing : Turn → Bool

@@ -61,7 +61,7 @@ controller_failing_at calls c = record c { port = port_failing calls c.port }
 -- the controller with these images that continues from the state; no turn is its last
 abbrev pub controller_restored : SavedState → ControllerState → ControllerState
 controller_restored s c =
-    record { port = port_failing s.failing_calls (port_restored s.port c.port.exec); last = None }
+    record c { port = port_failing s.failing_calls (port_restored s.port c.port.exec); last = None }
 
 -- a call that is to fail is one of a unit with a drive
 abbrev pub call_has_drive : Option UnitInfo → Option ℕ → Bool

@@ -1,21 +1,19 @@
 -- Turns over memory through map registers, for C.
 -- UDA50 Programmer's Documentation Kit: command ring polling, UNIBUS addresses.
-use Rattle.std.specs.Prelude.{◌≡◌, ℕ, ◌/◌, ◌%◌, ◌==◌, Bool, List, Some, All}
+use Rattle.std.specs.Prelude.{◌≡◌, ℕ, ◌/◌, ◌%◌, ◌==◌, Bool, false, List, Some, All}
 use Rattle.uda_mem.specs.declared.range.ByteRange.{ByteRange}
 use Rattle.uda_mem.specs.Ranges.{LiesIn}
-use Rattle.uda_mem.specs.Slices.{IsMemory}
 use Rattle.uda_port.specs.declared.memory_use.Missing.{Missing}
 use Rattle.uda_port.specs.declared.trace.Trace.{Trace}
 use Rattle.uda_exec.specs.BlockChanges.{ChangesOnly}
 use Rattle.uda_port.specs.BlockUse.{blocks_of, block_bytes_of}
-use Rattle.uda_port.specs.MemoryUse.{descriptor_ranges, use_of, written_of, EffectWithout, IsLocal, IsPlace}
+use Rattle.uda_port.specs.MemoryUse.{newest_count, written_of, EffectWithout, IsLocal, IsPlace}
 use Rattle.uda_port.specs.StartupUse.{range_written, WordEffect, WordIsLocal}
 use Rattle.uda_port.specs.Trace.{turn_of, Traces}
 use Rattle.uda_c.specs.declared.call_status.CallStatus.{CallStatus}
-use Rattle.uda_c.specs.declared.call_status.CallStatus.TheVariants.{RanTurn, Done}
+use Rattle.uda_c.specs.declared.call_status.CallStatus.TheVariants.{RanTurn}
 use Rattle.uda_c.specs.declared.turn_use.TurnUse.{TurnUse}
 use Rattle.uda_c.specs.ControllerState.{ControllerState}
-use Rattle.uda_c.specs.Controllers.{memory_refusal}
 
 -- which addresses lead nowhere, by the bits of a number
 abbrev pub missing_of : ℕ → Missing
@@ -25,24 +23,9 @@ missing_of bits = record {
   body = bits / 4 % 2 == 1;
 }
 
--- a call that fills a struct by the state of the controller and valid memory
-pub record FillsWhereMemory (memory : List ℕ) (before : TurnUse) (answer : CallStatus) (after : TurnUse)
-    (Fills : TurnUse → Type 0) : Type 0 where
-  pub done : IsMemory memory → (answer ≡ Done) × Fills after
-  pub refuses : (IsMemory memory → ⊥) → (answer ≡ memory_refusal memory) × (after ≡ before)
-
--- the descriptors that the next turn reads
-abbrev pub GetsDescriptors : ControllerState → List ℕ → TurnUse → CallStatus → TurnUse → Type 0
-GetsDescriptors c memory before answer after =
-    FillsWhereMemory memory before answer after
-    (λ filled. filled ≡ record before { descriptors = descriptor_ranges c.port memory })
-
--- the command that the next turn executes, if it executes one, and what the turn uses besides the descriptors
-abbrev pub GetsBody : ControllerState → List ℕ → TurnUse → CallStatus → TurnUse → Type 0
-GetsBody c memory before answer after =
-    FillsWhereMemory memory before answer after
-    (λ filled. IsPlace c.port.exec.pending filled.place
-    × (filled ≡ record before { place = filled.place; body = (use_of c.port memory filled.place).body }))
+-- the same, as if all addresses of the body led somewhere
+abbrev pub missing_before_body : ℕ → Missing
+missing_before_body bits = record (missing_of bits) { body = false }
 
 -- the index of a command: the one that the struct names, if that one may be executed next, or none is pending
 pub record IsPlaceOf (c : ControllerState) (asked : TurnUse) (place : ℕ) : Type 0 where
@@ -58,6 +41,7 @@ pub record TakesTurnAt (before : ControllerState × List ℕ) (asked : TurnUse) 
   pub place : ℕ
   pub answer_is : answer ≡ RanTurn (turn_of trace)
   pub last_is : after.0.last ≡ Some trace
+  pub rest_stays : after.0 ≡ record before.0 { port = after.0.port; last = after.0.last }
   pub tells : Traces trace before.0.port after.0.port
   pub filled_is : filled ≡ record asked { written = filled.written }
   pub place_is : IsPlaceOf before.0 asked place
@@ -65,17 +49,12 @@ pub record TakesTurnAt (before : ControllerState × List ℕ) (asked : TurnUse) 
       (after.0.port, after.1)
   pub local : IsLocal (missing_of asked.missing) place (before.0.port, before.1)
       (record { turn = turn_of trace; written = filled.written }) (after.0.port, after.1)
-  pub written_is : filled.written ≡ written_of (missing_of asked.missing) before.0.port before.1 place
+  pub written_is : filled.written
+      ≡ written_of (missing_of asked.missing) (before.0.port, before.1) place (newest_count after.0.port)
   pub within : All (LiesIn before.1) filled.written
   pub used_blocks : ChangesOnly (blocks_of (missing_of asked.missing) before.0.port before.1 place)
       (block_bytes_of (missing_of asked.missing) before.0.port before.1 place) before.0.port.exec.units
       after.0.port.exec.units
-
-pub record TurnsAtWhereMemory (before : ControllerState × List ℕ) (asked : TurnUse) (answer : CallStatus)
-    (filled : TurnUse) (after : ControllerState × List ℕ) : Type 0 where
-  pub turns : IsMemory before.1 → TakesTurnAt before asked answer filled after
-  pub refuses : (IsMemory before.1 → ⊥)
-      → (answer ≡ memory_refusal before.1) × ((filled ≡ asked) × (after ≡ before))
 
 -- a word written to SA over a window, and the range that it zeroed
 pub record WritesSaAt (missing : Bool) (before : ControllerState × List ℕ) (word : ℕ) (zeroed : ByteRange)
@@ -84,4 +63,4 @@ pub record WritesSaAt (missing : Bool) (before : ControllerState × List ℕ) (w
   pub zeroed_is : zeroed ≡ range_written missing (before.0.port, before.1) word
   pub local : WordIsLocal missing (before.0.port, before.1) word zeroed (after.0.port, after.1)
   pub within : LiesIn before.1 zeroed
-  pub last_stays : after.0.last ≡ before.0.last
+  pub rest_stays : after.0 ≡ record before.0 { port = after.0.port }

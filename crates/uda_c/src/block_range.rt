@@ -1,6 +1,6 @@
 //! Blocks that the next turn uses of an image that C reads and writes, for C.
 ghost use Rattle.std.specs.Prelude.{◌≡◌, option_map};
-ghost use Rattle.uda_c.specs.BlockRange.{access_code, range_of, NO_BLOCKS, prepared_numbered};
+ghost use Rattle.uda_c.specs.BlockRange.{access_code, access_numbered, range_of, NO_BLOCKS};
 
 use uda_exec::{BlockAccess, BlockUse};
 
@@ -48,16 +48,15 @@ impl BlockRange {
             count: used.count,
         }
     }
-}
 
-impl Prepared {
-    /// Returns the one with this number in C, if there is one.
-    pub fn of_number(number: u32) -> Option<Prepared>
-        ensures { result ≡ prepared_numbered number }
+    /// Returns how the turn uses them, if there are any.
+    pub fn use_of(self) -> Option<BlockAccess>
+        ensures { result ≡ access_numbered self.access }
     {
-        match number {
-            2 => Some(Prepared::Checked),
-            3 => Some(Prepared::Written),
+        match self.access {
+            1 => Some(BlockAccess::Reads),
+            2 => Some(BlockAccess::Checks),
+            3 => Some(BlockAccess::Writes),
             _ => None,
         }
     }

@@ -3,18 +3,22 @@ ghost use Rattle.std.specs.Prelude.{◌≡◌, ◌≢◌, ◌+◌, ◌*◌, ◌�
 ghost use Rattle.uda_image.specs.Limits.{store_limit};
 ghost use Rattle.uda_mem.specs.Slices.{IsMemory};
 ghost use Rattle.uda_c.specs.declared.call_status.CallStatus.TheVariants.{Done};
-ghost use Rattle.uda_c.specs.BlockRange.{AttachesCalled, GetsBlocks, ReportsBlocks, controller_begun, GetsWritten};
-ghost use Rattle.uda_c.specs.BlockRange.{CopiesWritten, LendsBlocks, AllowsBlocks};
-ghost use Rattle.uda_c.specs.Controllers.{is_called_at};
+ghost use Rattle.uda_c.specs.BlockRange.{AttachesCalled, LendsBlocks, AllowsBlocks, range_reported, with_none_ready};
+ghost use Rattle.uda_c.specs.BlockRange.{blocks_dropped};
+ghost use Rattle.uda_c.specs.Steps.{MakesReady, GetsWritten, CopiesWritten};
+ghost use Rattle.uda_port.specs.BlockUse.{blocks_of};
 ghost use Rattle.uda_c.specs.UnitImage.{status_of};
 
 use crate::block_range::{BlockRange, Prepared};
 use crate::call_status::CallStatus;
-use crate::controller::{Controller, put_back, refusal_of};
-use crate::turn_use::TurnUse;
+use crate::controller::{Controller, any_called, put_back};
+use crate::lent::BorrowedBytes;
+use crate::slot::Slot;
+use crate::turn_use::{Step, TurnUse};
 use crate::unit_image::UnitImage;
-use uda_exec::BlockUse;
+use uda_exec::BlockAccess;
 use uda_image::Drive;
+use uda_port::Missing;
 
 impl Controller {
     /// Attaches an image of `blocks` blocks that C reads and writes by calls of its own.
@@ -35,65 +39,108 @@ impl Controller {
             return CallStatus::TooLarge;
         };
         self.port.set_drive(unit, Some(Drive { store, hard }));
+        self.called = true;
         CallStatus::Done
     }
 
-    /// Fills in the blocks that the next turn uses of an image that C reads and writes. None of its blocks is
-    /// ready then.
-    pub fn get_blocks(
-        &mut self,
-        memory: &[u8],
-        turn: &TurnUse,
-        blocks: &mut BlockRange,
-    ) -> CallStatus
-        ensures gets { GetsBlocks (self.old, blocks.old) memory.now turn.now result (self.new, blocks.new) }
-    {
-        match refusal_of(memory) {
-            Some(refusal) => refusal,
-            None => {
-                *blocks = self.begin_blocks(memory, turn);
-                CallStatus::Done
-            }
-        }
-    }
-
-    // Returns these blocks in valid memory. None of the unit's blocks is ready then.
-    fn begin_blocks(&mut self, memory: &[u8], turn: &TurnUse) -> BlockRange
+    /// Returns the blocks that the turn with the command at `place` uses of an image that C reads and writes.
+    pub(crate) fn blocks_used(&self, memory: &[u8], place: usize, missing: Missing) -> BlockRange
         requires memory { IsMemory memory.now }
-        ensures reports { ReportsBlocks self.old memory.now turn.now (self.new, result) }
+        ensures blocks { result ≡ range_reported self.now (blocks_of missing self.now.port memory.now place) }
     {
-        let place = self.place_of(turn);
-        match self.port.blocks_at(memory, place, turn.missing()) {
-            Some(used) if self.begin(used) => BlockRange::of(used),
+        if self.port.pending() == 0 {
+            return BlockRange::NONE;
+        }
+        self.keep();
+        if !any_called(&self.port) {
+            return BlockRange::NONE;
+        }
+        match self.port.blocks_at(memory, place, missing) {
+            Some(used) if self.is_called(usize::from(used.unit)) => BlockRange::of(used),
             _ => BlockRange::NONE,
         }
     }
 
-    // Drops what is ready of the unit's image, if C reads and writes it. Returns whether it does.
-    fn begin(&mut self, used: BlockUse) -> bool
-        ensures called { result ≡ is_called_at self.old used.unit }
-        ensures begun { self.new ≡ controller_begun self.old (Some used) }
+    /// Makes only those of the turn's blocks ready that C has moved. Fails if there are fewer, or other bytes.
+    pub(crate) fn make_ready(&mut self, turn: &mut TurnUse) -> CallStatus
+        ensures ready { MakesReady self.old turn.old result self.new }
+        ensures same { turn.new ≡ turn.old }
     {
-        let unit = usize::from(used.unit);
+        let blocks = turn.blocks;
+        let ready = turn.ready;
+        if ready > blocks.count || !turn.has_bytes() {
+            return CallStatus::BadLength;
+        }
+        if blocks.count == 0 {
+            return CallStatus::Done;
+        }
+        self.drop_blocks(blocks);
+        match blocks.use_of() {
+            Some(BlockAccess::Reads) => self.lend_slot(blocks, &mut turn.lent),
+            Some(BlockAccess::Checks) => self.allow_blocks(blocks.unit, Prepared::Checked, ready),
+            Some(BlockAccess::Writes) => self.allow_blocks(blocks.unit, Prepared::Written, ready),
+            None => CallStatus::Done,
+        }
+    }
+
+    /// Drops what is ready of the image of these blocks, if there are any.
+    pub(crate) fn drop_blocks(&mut self, blocks: BlockRange)
+        ensures dropped { self.new ≡ blocks_dropped self.old blocks }
+    {
+        if blocks.count != 0 {
+            self.begin(blocks.unit, blocks.first);
+        }
+    }
+
+    // Drops what is ready of a unit's image, if C reads and writes it. Blocks are made ready from block `first` on
+    // then.
+    fn begin(&mut self, unit: u32, first: u32)
+        ensures begun { self.new ≡ with_none_ready self.old unit first }
+    {
+        let unit = unit as usize;
         let Some(look) = self.port.unit(unit) else {
-            return false;
+            return;
         };
         if !self.is_called(unit) {
-            return false;
+            return;
         }
         if let Some(Drive { store, hard }) = self.port.exchange_drive(unit, None) {
             let mut store = store;
-            store.begin(used.first);
+            store.begin(first);
             put_back(&mut self.port, unit, Drive { store, hard }, look.mode);
         }
-        true
+    }
+
+    // Lends the bytes of a slot as those of blocks from the first of these on.
+    #[tactic(auto, using(crate::proofs::Lending::put_back))]
+    fn lend_slot(&mut self, blocks: BlockRange, slot: &mut Slot) -> CallStatus
+        ensures lends { LendsBlocks self.old (blocks.unit, blocks.first) slot.old.held result self.new }
+        ensures same { slot.new ≡ slot.old }
+    {
+        match slot.take() {
+            Some(lent) => {
+                let mut lent = lent;
+                let answer = self.lend_bytes(blocks, &mut lent);
+                slot.put(lent);
+                answer
+            }
+            None => self.lend_blocks(blocks.unit, blocks.first, &[]),
+        }
+    }
+
+    // Lends these bytes as those of blocks from the first of these on.
+    fn lend_bytes(&mut self, blocks: BlockRange, lent: &mut BorrowedBytes) -> CallStatus
+        ensures lends { LendsBlocks self.old (blocks.unit, blocks.first) lent.old.held result self.new }
+        ensures same { lent.new ≡ lent.old }
+    {
+        self.lend_blocks(blocks.unit, blocks.first, lent.bytes_mut())
     }
 
     /// Fills `to` with bytes of the blocks that the next turn writes, after the first `skip` of them.
     pub fn get_written(&self, memory: &[u8], turn: &TurnUse, skip: u32, to: &mut [u8]) -> CallStatus
         ensures gets { GetsWritten self.now memory.now (turn.now, skip) result (to.old, to.new) }
     {
-        match refusal_of(memory) {
+        match self.refusal_of_step(Step::Filled, memory, turn) {
             Some(refusal) => refusal,
             None => self.copy_written(memory, turn, skip, to),
         }
@@ -104,7 +151,7 @@ impl Controller {
         requires memory { IsMemory memory.now }
         ensures copies { CopiesWritten self.now memory.now (turn.now, skip) result (to.old, to.new) }
     {
-        let place = self.place_of(turn);
+        let place = self.place_of(turn.place);
         if self
             .port
             .copy_written(memory, place, turn.missing(), skip, to)
@@ -115,8 +162,8 @@ impl Controller {
         }
     }
 
-    /// Lends the bytes of blocks of a unit's image from block `first` on.
-    pub fn lend_blocks(&mut self, unit: u32, first: u32, from: &[u8]) -> CallStatus
+    // Lends the bytes of blocks of a unit's image from block `first` on.
+    fn lend_blocks(&mut self, unit: u32, first: u32, from: &[u8]) -> CallStatus
         ensures lends { LendsBlocks self.old (unit, first) from.now result self.new }
     {
         let unit = unit as usize;
@@ -137,8 +184,8 @@ impl Controller {
         }
     }
 
-    /// Makes the next blocks of a unit's image ready, which C checked or wrote.
-    pub fn allow_blocks(&mut self, unit: u32, prepared: Option<Prepared>, count: u32) -> CallStatus
+    // Makes the next blocks of a unit's image ready, which C checked or wrote.
+    fn allow_blocks(&mut self, unit: u32, prepared: Prepared, count: u32) -> CallStatus
         ensures allows { AllowsBlocks self.old (unit, count) prepared result self.new }
     {
         let unit = unit as usize;
@@ -147,9 +194,6 @@ impl Controller {
         }
         let Some(look) = self.port.unit(unit) else {
             return CallStatus::NotAttached;
-        };
-        let Some(prepared) = prepared else {
-            return CallStatus::OtherKind;
         };
         match self.port.exchange_drive(unit, None) {
             Some(Drive { store, hard }) => {

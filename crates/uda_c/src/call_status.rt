@@ -22,7 +22,7 @@ pub enum CallStatus {
     /// The unit has no image.
     NotAttached,
     /// The length is invalid: an image's is a multiple of 512 and not 0, that of guest memory or of a bus is even,
-    /// and a saved state's is fixed.
+    /// a saved state's is fixed, and that of a struct which is filled is at least its own.
     BadLength,
     /// An image, a guest's memory or a bus may not have this many bytes.
     TooLarge,
@@ -44,11 +44,13 @@ pub enum CallStatus {
     BadFirstUnit,
     /// The number of bits of an offset in a page of a map, or of its shift, is above 31.
     BadMap,
-    /// The unit's image is in memory where the call needs one that C reads and writes, or the other way round. Or no
-    /// blocks are prepared in the way of this number.
+    /// The unit's image is in memory where the call needs one that C reads and writes, or the other way round. Or a
+    /// unit has such an image, and the call accepts none. Or no blocks are prepared in the way of this number.
     OtherKind,
     /// An address leads nowhere.
     Nowhere,
+    /// A step of a turn is of another controller, of an earlier turn, or out of order.
+    Stale,
 }
 
 impl CallStatus {
@@ -84,6 +86,7 @@ impl CallStatus {
             CallStatus::BadMap => 79,
             CallStatus::OtherKind => 80,
             CallStatus::Nowhere => 81,
+            CallStatus::Stale => 82,
         }
     }
 }

@@ -1,32 +1,34 @@
 //! The controller of a handle.
-ghost use Rattle.std.specs.Prelude.{◌≡◌, true, ◌≢◌, ◌≤◌, ◌/◌, ◌%◌, ℕ, [], length, slice_get, unwrap_or, IfSome, IfNone, IfOk, IfErr, IsTrue, ◌⊎◌};
+ghost use Rattle.std.specs.Prelude.{◌≡◌, ◌||◌, true, false, Some, ◌≢◌, ◌≤◌, ◌/◌, ◌%◌, ℕ, [], length, slice_get, unwrap_or, IfSome, IfNone, IfOk, IfErr, IsTrue, ◌⊎◌};
 ghost use Rattle.uda_image.specs.Limits.{store_limit};
 ghost use Rattle.uda_mem.specs.Slices.{IsMemory};
-ghost use Rattle.uda_c.specs.declared.call_status.CallStatus.TheVariants.{RanTurn, Done, NoMemory};
+ghost use Rattle.uda_c.specs.declared.call_status.CallStatus.TheVariants.{RanTurn, Done, NoMemory, BadLength, OtherKind, Stale};
 ghost use Rattle.uda_c.specs.Controllers.{controller_at_start, refusal_of_profile, SetsType, Attaches, Detaches, TurnsWhereMemory};
-ghost use Rattle.uda_c.specs.Controllers.{FailsAt, controller_failing, is_called_at, port_put_back, TakesTurn, memory_refusal, IsValidPort};
+ghost use Rattle.uda_c.specs.Controllers.{raised, FailsAt, controller_failing, is_called_at, port_put_back, TakesTurn, memory_refusal, IsValidPort};
 ghost use Rattle.uda_c.specs.Saving.{Saves, RestoreOutcome, controller_saved, failing_call_of};
 ghost use Rattle.uda_c.specs.Saving.{controller_failing_at};
-ghost use Rattle.uda_port.specs.Port.{port_restarted, port_after_ip_read};
+ghost use Rattle.uda_port.specs.Port.{port_restarted, port_after_ip_read, read_only_at};
 ghost use Rattle.uda_port.specs.Interrupt.{vector_of, served, IsVectorAddress};
 ghost use Rattle.uda_c.specs.Fits.{numbers_fit};
-ghost use Rattle.uda_c.specs.Controllers.{WritesSa, GivesBack, image_answer, image_at, image_bytes_at};
+ghost use Rattle.uda_c.specs.Controllers.{WritesSa, GivesBack, image_answer, image_at, image_bytes_at, SetsProtection, any_called};
 ghost use Rattle.uda_c.specs.BorrowedImage.{IsWhole};
-ghost use Rattle.uda_c.specs.UnitImage.{unit_state, store_failing, bytes_of_store};
+ghost use Rattle.uda_c.specs.UnitImage.{unit_state, store_failing, bytes_of_store, is_called_in};
 ghost use Rattle.uda_c.specs.Slots.{empty_slot, is_empty};
 ghost use Rattle.uda_exec.specs.Drives.{drive_state};
 ghost use Rattle.uda_port.specs.MemoryUse.{IsPlace};
-ghost use Rattle.uda_c.specs.TurnUse.{GetsDescriptors, GetsBody, TurnsAtWhereMemory, TakesTurnAt, WritesSaAt};
-ghost use Rattle.uda_c.specs.Runs.{TakesTurns, RunsWhereMemory, does_nothing};
+ghost use Rattle.uda_c.specs.TurnUse.{TakesTurnAt, WritesSaAt};
+ghost use Rattle.uda_c.specs.Steps.{BeginsTurn, turn_begun, GetsBody, IsFilled, IsRefused, TurnsAt, TurnsWithBlocks, is_current, is_short};
+ghost use Rattle.uda_c.specs.Runs.{TakesTurns, RunsWhereMemory, does_nothing, UnlessCalled};
 ghost use Rattle.uda_c.specs.Maps.{IsBusOf, map_answer, OverMap, TakesTurnThroughMap, TakesTurnsThroughMap, WritesSaOver};
 
+use crate::block_range::BlockRange;
 use crate::call_status::CallStatus;
 use crate::fits::{fits_controller, numbers_fit};
 use crate::lent::BorrowedBytes;
 use crate::map::{MapRegisters, MappedBus};
 use crate::saving::{RestoreRefusal, calls_have_drives, ops_have_commands};
 use crate::slot::Slot;
-use crate::turn_use::TurnUse;
+use crate::turn_use::{Step, TurnUse};
 use crate::unit_image::UnitImage;
 use crate::unit_images::UnitImages;
 use std::alloc::Global;
@@ -45,6 +47,12 @@ use uda_saved::{STATE_LENGTH, SavedState};
 pub struct Controller {
     pub port: Port<UnitImage>,
     pub last: Option<Trace>,
+    // Whether a unit has an image that C reads and writes by calls of its own.
+    pub(crate) called: bool,
+    // How many calls have changed it, modulo 2^64.
+    count: u64,
+    // The number that C gave it when it began the steps of a turn last.
+    number: u64,
     // The window of the last call over a map, which the next one uses again.
     window: Option<Window>,
     pub(crate) alloc: Global,
@@ -57,7 +65,13 @@ impl Model for Controller {
 
     ghost Value = { ControllerState };
 
-    ghost view = { λ c. record { port = c.port; last = c.last } };
+    ghost view = { λ c. record {
+      port = c.port;
+      last = c.last;
+      called = c.called;
+      count = c.count;
+      number = c.number;
+    } };
 
     ghost invariant = { λ c. AllFaithful c.port.exec.units × FitsController c.port };
 }
@@ -81,6 +95,9 @@ impl Controller {
             Ok(port) => Ok(Controller {
                 port,
                 last: None,
+                called: false,
+                count: 0,
+                number: 0,
                 window: None,
                 alloc,
             }),
@@ -93,6 +110,13 @@ impl Controller {
         ensures valid { IsValidPort self.now.port }
     {
         self.port.keep();
+    }
+
+    /// Counts a call that changes the controller.
+    pub fn raise(&mut self)
+        ensures raised { self.new ≡ raised self.old }
+    {
+        self.count = self.count.wrapping_add(1);
     }
 
     /// Writes IP for the guest.
@@ -110,11 +134,16 @@ impl Controller {
         self.port.read_ip()
     }
 
-    /// Writes SA for the guest.
-    pub fn write_sa(&mut self, word: u16, memory: &mut [u8])
-        ensures effect { WritesSa self.old memory.old word self.new memory.new }
+    /// Writes SA for the guest. Fails with `OtherKind` if a unit has an image that C reads and writes.
+    pub fn write_sa(&mut self, word: u16, memory: &mut [u8]) -> CallStatus
+        ensures effect { UnlessCalled (self.old, memory.old) result (self.new, memory.new)
+            ((result ≡ Done) × WritesSa self.old memory.old word self.new memory.new) }
     {
-        self.port.write_sa_in(word, memory);
+        if !self.called {
+            self.port.write_sa_in(word, memory);
+            return CallStatus::Done;
+        }
+        CallStatus::OtherKind
     }
 
     /// Takes the pending interrupt request, if there is one, and returns its vector address.
@@ -168,6 +197,7 @@ impl Controller {
         if let Some(drive) = self.port.set_drive(unit, None) {
             put_lent(drive.store, image);
         }
+        self.called = any_called(&self.port);
         CallStatus::Done
     }
 
@@ -219,10 +249,26 @@ impl Controller {
     pub fn is_called(&self, unit: usize) -> bool
         ensures called { result ≡ is_called_at self.now unit }
     {
-        match self.port.store(unit) {
-            Some(image) => image.is_called(),
-            None => false,
+        is_called_in(&self.port, unit)
+    }
+
+    /// Moves the write-protect button of a unit's drive. An image of a read-only type stays protected.
+    pub fn set_protected(&mut self, unit: u32, hard: bool) -> CallStatus
+        ensures protects { SetsProtection self.old unit hard result self.new }
+    {
+        let unit = unit as usize;
+        if unit > 3 {
+            return CallStatus::NoSuchUnit;
         }
+        let Some(look) = self.port.unit(unit) else {
+            return CallStatus::NotAttached;
+        };
+        let hard = is_protected(&self.port, unit, hard);
+        if let Some(Drive { store, .. }) = self.port.exchange_drive(unit, None) {
+            let mode = protected_mode(look.mode, hard);
+            put_back(&mut self.port, unit, Drive { store, hard }, mode);
+        }
+        CallStatus::Done
     }
 
     /// Sets the drive type of a unit without an image.
@@ -326,23 +372,41 @@ impl Controller {
         self.set_failing_call(unit, call);
     }
 
-    /// Runs one turn of the port in the guest's memory.
+    /// Runs one turn of the port in the guest's memory. Fails with `OtherKind` if a unit has an image that C reads and
+    /// writes.
     pub fn turn(&mut self, memory: &mut [u8]) -> CallStatus
-        ensures effect { TurnsWhereMemory self.old memory.old result self.new memory.new }
+        ensures effect { UnlessCalled (self.old, memory.old) result (self.new, memory.new)
+            (TurnsWhereMemory self.old memory.old result self.new memory.new) }
     {
-        match refusal_of(memory) {
+        match self.refusal(memory) {
             Some(refusal) => refusal,
             None => CallStatus::RanTurn(self.take_turn(memory)),
         }
     }
 
-    /// Runs up to `limit` turns, and stops after the first that does nothing.
+    /// Runs up to `limit` turns, and stops after the first that does nothing. Fails with `OtherKind` if a unit has an
+    /// image that C reads and writes.
     pub fn run(&mut self, limit: u32, memory: &mut [u8]) -> CallStatus
-        ensures runs { RunsWhereMemory limit (self.old, memory.old) result (self.new, memory.new) }
+        ensures runs { UnlessCalled (self.old, memory.old) result (self.new, memory.new)
+            (RunsWhereMemory limit (self.old, memory.old) result (self.new, memory.new)) }
     {
-        match refusal_of(memory) {
+        match self.refusal(memory) {
             Some(refusal) => refusal,
             None => self.run_in(limit, memory),
+        }
+    }
+
+    // Returns why no turn can be taken in this memory, or None if turns can be.
+    fn refusal(&self, memory: &[u8]) -> Option<CallStatus>
+        ensures works { IfNone result ((self.now.called ≡ false) × IsMemory memory.now) }
+        ensures called { self.now.called ≡ true → result ≡ Some OtherKind }
+        ensures refused { self.now.called ≡ false
+            → IfSome result (λ r. (IsMemory memory.now → ⊥) × (r ≡ memory_refusal memory.now)) }
+    {
+        if self.called {
+            Some(CallStatus::OtherKind)
+        } else {
+            refusal_of(memory)
         }
     }
 
@@ -362,43 +426,122 @@ impl Controller {
         answer
     }
 
-    /// Fills in the descriptors that the next turn reads.
-    pub fn get_descriptors(&self, memory: &[u8], turn: &mut TurnUse) -> CallStatus
-        ensures gets { GetsDescriptors self.now memory.now turn.old result turn.new }
+    /// Begins a turn: fills the struct with its descriptors, and with whose turn it is.
+    pub fn get_descriptors(&mut self, memory: &[u8], turn: &mut TurnUse) -> CallStatus
+        ensures begins { BeginsTurn (self.old, turn.old) memory.now result (self.new, turn.new) }
     {
+        if turn.is_short() {
+            return CallStatus::BadLength;
+        }
         match refusal_of(memory) {
             Some(refusal) => refusal,
             None => {
-                let descriptors = self.port.descriptor_ranges(memory);
-                turn.descriptors = descriptors;
+                self.number = turn.controller;
+                self.begin_turn(memory, turn);
                 CallStatus::Done
             }
         }
     }
 
-    /// Fills in the command that the next turn executes, and what the turn uses besides the descriptors.
+    // Fills the struct in valid memory.
+    fn begin_turn(&self, memory: &[u8], turn: &mut TurnUse)
+        requires memory { IsMemory memory.now }
+        ensures begun { turn.new ≡ turn_begun self.now memory.now turn.old }
+    {
+        turn.forget_lent();
+        turn.count = self.count;
+        turn.step = Step::Began.code();
+        let descriptors = self.port.descriptor_ranges(memory);
+        turn.descriptors = descriptors;
+        turn.body = ByteRange::EMPTY;
+        turn.written = [ByteRange::EMPTY; 4];
+        turn.place = 0;
+        turn.missing = 0;
+        turn.reads_body = 0;
+        turn.blocks = BlockRange::NONE;
+        turn.ready = 0;
+    }
+
+    /// Fills in the command that the next turn executes, what the turn uses besides the descriptors, and the blocks
+    /// that it uses of an image that C reads and writes.
     pub fn get_body(&self, memory: &[u8], turn: &mut TurnUse) -> CallStatus
         ensures gets { GetsBody self.now memory.now turn.old result turn.new }
     {
-        match refusal_of(memory) {
+        match self.refusal_of_step(Step::Began, memory, turn) {
             Some(refusal) => refusal,
             None => {
-                let place = self.port.next_place();
-                turn.place = place as u32;
-                turn.body = self.port.memory_use(memory, place).body;
+                self.fill(memory, turn);
                 CallStatus::Done
             }
         }
     }
 
-    /// Runs one turn of the port over a window into the guest's memory, and fills in what it wrote.
-    pub fn turn_at(&mut self, memory: &mut [u8], turn: &mut TurnUse) -> CallStatus
-        ensures effect { TurnsAtWhereMemory (self.old, memory.old) turn.old result turn.new
-            (self.new, memory.new) }
+    // Does the same in valid memory.
+    fn fill(&self, memory: &[u8], turn: &mut TurnUse)
+        requires memory { IsMemory memory.now }
+        ensures filled { IsFilled self.now memory.now turn.old turn.new }
     {
-        match refusal_of(memory) {
+        let place = self.port.next_place();
+        let missing = turn.missing_before_body();
+        turn.step = Step::Filled.code();
+        turn.place = place as u32;
+        let uses = self.port.memory_use(memory, place);
+        turn.body = uses.body;
+        turn.reads_body = u32::from(uses.reads_body);
+        turn.blocks = self.blocks_used(memory, place, missing);
+    }
+
+    /// Returns the status of a step that is refused after this one, or None if it may be taken.
+    pub(crate) fn refusal_of_step(
+        &self,
+        step: Step,
+        memory: &[u8],
+        turn: &TurnUse,
+    ) -> Option<CallStatus>
+        ensures follows { IfNone result ((is_current step self.now turn.now ≡ true)
+            × (is_short turn.now ≡ false) × IsMemory memory.now) }
+        ensures refused { IfSome result (λ r. IsRefused step (self.now, turn.now) memory.now r) }
+    {
+        if !self.is_current(step, turn) {
+            return Some(CallStatus::Stale);
+        }
+        if turn.is_short() {
+            return Some(CallStatus::BadLength);
+        }
+        refusal_of(memory)
+    }
+
+    // Returns whether the struct is of the controller's present turn, and this step was done last.
+    fn is_current(&self, step: Step, turn: &TurnUse) -> bool
+        ensures { result ≡ is_current step self.now turn.now }
+    {
+        turn.controller == self.number && (turn.count == self.count && turn.step == step.code())
+    }
+
+    /// Runs one turn of the port over a window into the guest's memory, and fills in what it wrote. The blocks that C
+    /// has moved are ready only for this turn.
+    pub fn turn_at(&mut self, memory: &mut [u8], turn: &mut TurnUse) -> CallStatus
+        ensures effect { TurnsAt (self.old, memory.old) turn.old result turn.new (self.new, memory.new) }
+    {
+        match self.refusal_of_step(Step::Filled, memory, turn) {
             Some(refusal) => refusal,
-            None => self.take_turn_at(memory, turn),
+            None => self.turn_with_blocks(memory, turn),
+        }
+    }
+
+    // Does the same in valid memory, as the next step.
+    fn turn_with_blocks(&mut self, memory: &mut [u8], turn: &mut TurnUse) -> CallStatus
+        requires memory { IsMemory memory.old }
+        ensures turns { TurnsWithBlocks (self.old, memory.old) turn.old result turn.new (self.new, memory.new) }
+    {
+        match self.make_ready(turn) {
+            CallStatus::Done => {
+                self.raise();
+                let answer = self.take_turn_at(memory, turn);
+                self.drop_blocks(turn.blocks);
+                answer
+            }
+            refusal => refusal,
         }
     }
 
@@ -407,7 +550,7 @@ impl Controller {
         requires memory { IsMemory memory.old }
         ensures { TakesTurnAt (self.old, memory.old) turn.old result turn.new (self.new, memory.new) }
     {
-        let place = self.place_of(turn);
+        let place = self.place_of(turn.place);
         let missing = turn.missing();
         let trace = self.last.get_or_insert(Trace::Idle);
         let bus = BusTurn { place, missing };
@@ -418,11 +561,11 @@ impl Controller {
     }
 
     // Returns the index of the command that C asks for, if it is eligible, or else the port's own choice.
-    pub(crate) fn place_of(&self, turn: &TurnUse) -> usize
+    pub(crate) fn place_of(&self, asked: u32) -> usize
         ensures place { IsPlace self.now.port.exec.pending result }
-        ensures asked { IsPlace self.now.port.exec.pending turn.now.place → result ≡ turn.now.place }
+        ensures asked { IsPlace self.now.port.exec.pending asked → result ≡ asked }
     {
-        let asked = turn.place as usize;
+        let asked = asked as usize;
         if self.port.is_place(asked) {
             asked
         } else {
@@ -437,31 +580,17 @@ impl Controller {
         self.port.write_sa_at(word, memory, missing)
     }
 
-    /// Runs one turn of the port over memory through map registers.
-    pub fn turn_mapped(&mut self, memory: &mut [u8], map: &MapRegisters<'_>) -> CallStatus
-        ensures effect { OverMap map.now (self.old, memory.old) result (self.new, memory.new)
-            (λ bus. TakesTurnThroughMap bus (self.old, memory.old) result (self.new, memory.new)) }
-    {
-        match self.ready(map) {
-            Ok(ReadyBus { bus, window }) => {
-                let mut window = window;
-                let turn = self.take_turn_mapped(memory, &bus, &mut window);
-                self.window = Some(window);
-                CallStatus::RanTurn(turn)
-            }
-            Err(status) => status,
-        }
-    }
-
-    /// Runs up to `limit` turns over memory through map registers, and stops after the first that does nothing.
+    /// Runs up to `limit` turns over memory through map registers, and stops after the first that does nothing. Fails
+    /// with `OtherKind` if a unit has an image that C reads and writes.
     pub fn run_mapped(
         &mut self,
         limit: u32,
         memory: &mut [u8],
         map: &MapRegisters<'_>,
     ) -> CallStatus
-        ensures runs { OverMap map.now (self.old, memory.old) result (self.new, memory.new)
-            (λ bus. TakesTurnsThroughMap bus limit Done (self.old, memory.old) (result, (self.new, memory.new))) }
+        ensures runs { UnlessCalled (self.old, memory.old) result (self.new, memory.new)
+            (OverMap map.now (self.old, memory.old) result (self.new, memory.new)
+            (λ bus. TakesTurnsThroughMap bus limit Done (self.old, memory.old) (result, (self.new, memory.new)))) }
     {
         match self.ready(map) {
             Ok(ReadyBus { bus, window }) => {
@@ -474,15 +603,17 @@ impl Controller {
         }
     }
 
-    /// Writes SA for the guest over memory through map registers.
+    /// Writes SA for the guest over memory through map registers. Fails with `OtherKind` if a unit has an image that C
+    /// reads and writes.
     pub fn write_sa_mapped(
         &mut self,
         word: u16,
         memory: &mut [u8],
         map: &MapRegisters<'_>,
     ) -> CallStatus
-        ensures effect { OverMap map.now (self.old, memory.old) result (self.new, memory.new)
-            (λ bus. WritesSaOver bus (self.old, memory.old) word result (self.new, memory.new)) }
+        ensures effect { UnlessCalled (self.old, memory.old) result (self.new, memory.new)
+            (OverMap map.now (self.old, memory.old) result (self.new, memory.new)
+            (λ bus. WritesSaOver bus (self.old, memory.old) word result (self.new, memory.new))) }
     {
         match self.ready(map) {
             Ok(ReadyBus { bus, window }) => {
@@ -495,14 +626,20 @@ impl Controller {
         }
     }
 
-    // Returns the bus of a map with the controller's window, which has as many bytes as the bus has addresses.
+    // Returns the bus of a map with the controller's window, which has as many bytes as the bus has addresses. Fails if a
+    // unit has an image that C reads and writes.
     fn ready<'a>(&mut self, map: &MapRegisters<'a>) -> Result<ReadyBus<'a>, CallStatus>
         ensures same { self.new ≡ self.old }
         ensures ok { IfOk result (λ ready. IsBusOf map.now ready.bus × (length ready.window ≡ ready.bus.size)
             × (map_answer map.now ≡ Done)) }
-        ensures err { IfErr result (λ r. ((r ≡ NoMemory) × (map_answer map.now ≡ Done))
+        ensures uncalled { IfOk result (λ _. self.old.called ≡ false) }
+        ensures called { IfErr result (λ r. self.old.called ≡ true → r ≡ OtherKind) }
+        ensures err { IfErr result (λ r. self.old.called ≡ false → ((r ≡ NoMemory) × (map_answer map.now ≡ Done))
             ⊎ ((r ≡ map_answer map.now) × (r ≢ Done))) }
     {
+        if self.called {
+            return Err(CallStatus::OtherKind);
+        }
         let bus = map.bus()?;
         let mut window = match self.window.take() {
             Some(window) => window,
@@ -594,7 +731,7 @@ fn take_image(slot: &mut Slot) -> Result<BorrowedBytes, CallStatus>
 }
 
 // Returns the number of bytes.
-fn length_of(lent: &mut BorrowedBytes) -> usize
+pub(crate) fn length_of(lent: &mut BorrowedBytes) -> usize
     ensures length { result ≡ length lent.old.held }
     ensures same { lent.new ≡ lent.old }
 {
@@ -631,6 +768,47 @@ pub(crate) fn put_back(port: &mut Port<UnitImage>, unit: usize, drive: Drive<Uni
 {
     port.exchange_drive(unit, Some(drive));
     port.restore_mode(unit, mode);
+}
+
+// Returns whether C reads and writes a unit's image by calls of its own.
+pub(crate) fn is_called_in(port: &Port<UnitImage>, unit: usize) -> bool
+    ensures called { result ≡ is_called_in (slice_get port.now.exec.units unit) }
+{
+    match port.store(unit) {
+        Some(image) => image.is_called(),
+        None => false,
+    }
+}
+
+// Returns whether C reads and writes the image of any of the four units by calls of its own.
+pub(crate) fn any_called(port: &Port<UnitImage>) -> bool
+    ensures called { result ≡ any_called port.now.exec.units }
+{
+    is_called_in(port, 0) || is_called_in(port, 1) || is_called_in(port, 2) || is_called_in(port, 3)
+}
+
+// Returns whether a unit's type is read-only in the port's profile.
+fn read_only_at(port: &Port<UnitImage>, unit: usize) -> bool
+    ensures { result ≡ read_only_at port.now unit }
+{
+    match (port.profile(), port.drive_type(unit)) {
+        (Profile::Compatible(_), Some(kind)) => kind.traits().is_read_only,
+        _ => false,
+    }
+}
+
+// Returns whether a unit's image is write-protected while its drive's button asks for this: one of a read-only type is.
+fn is_protected(port: &Port<UnitImage>, unit: usize, asked: bool) -> bool
+    ensures { result ≡ (read_only_at port.now unit || asked) }
+{
+    read_only_at(port, unit) || asked
+}
+
+// Returns a mode with this hardware write protection.
+fn protected_mode(mode: Mode, hard: bool) -> Mode
+    ensures { result ≡ record mode { hard = hard } }
+{
+    Mode { hard, ..mode }
 }
 
 // Returns a drive whose store fails at a call, counted from now on, or never, if its bytes are in memory.

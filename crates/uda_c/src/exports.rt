@@ -8,19 +8,19 @@ ghost use Rattle.uda_c.specs.Choices.{bus_of};
 ghost use Rattle.uda_packet.specs.DriveTypes.{type_numbered};
 ghost use Rattle.uda_c.specs.declared.call_status.CallStatus.{CallStatus};
 ghost use Rattle.uda_c.specs.declared.call_status.CallStatus.TheVariants.{Done, NoController};
-ghost use Rattle.uda_c.specs.Controllers.{OnHandle, AreValid, HoldsValid, MakesNew, MakesNumbered, MakesAs, SetsType, refusal_of_new, profile_of, is_read_only, Frees, GivesBack};
+ghost use Rattle.uda_c.specs.Controllers.{OnHandle, OnRaised, AreValid, HoldsValid, MakesNew, MakesNumbered, MakesAs, SetsType, refusal_of_new, profile_of, is_read_only, Frees, GivesBack};
 ghost use Rattle.uda_c.specs.Controllers.{Attaches, Detaches, HasImage, HadBytes, WritesSa};
-ghost use Rattle.uda_c.specs.Controllers.{FailsAt, TurnsWhereMemory, TakesInterrupt};
+ghost use Rattle.uda_c.specs.Controllers.{FailsAt, TurnsWhereMemory, TakesInterrupt, SetsProtection};
 ghost use Rattle.uda_port.specs.StartupUse.{range_zeroed};
-ghost use Rattle.uda_c.specs.TurnUse.{GetsDescriptors, GetsBody, TurnsAtWhereMemory, WritesSaAt};
+ghost use Rattle.uda_c.specs.TurnUse.{WritesSaAt};
+ghost use Rattle.uda_c.specs.Steps.{BeginsTurn, GetsBody, GetsWritten, TurnsAt};
 ghost use Rattle.uda_c.specs.Saving.{Saves, Restores};
-ghost use Rattle.uda_c.specs.BlockRange.{AttachesCalled, GetsBlocks, GetsWritten, LendsBlocks, AllowsBlocks, prepared_numbered};
-ghost use Rattle.uda_c.specs.Maps.{OverMap, ReadsMapped, WritesMapped, TakesTurnThroughMap, TakesTurnsThroughMap, WritesSaOver};
-ghost use Rattle.uda_c.specs.Runs.{RunsWhereMemory};
-ghost use Rattle.uda_c.specs.Snapshot.{port_snapshot};
-ghost use Rattle.uda_c.specs.Last.{turn_record, TellsLine};
+ghost use Rattle.uda_c.specs.BlockRange.{AttachesCalled};
+ghost use Rattle.uda_c.specs.Maps.{OverMap, ReadsMapped, WritesMapped, TakesTurnsThroughMap, WritesSaOver};
+ghost use Rattle.uda_c.specs.Runs.{RunsWhereMemory, UnlessCalled};
+ghost use Rattle.uda_c.specs.Inspection.{GetsState, GetsLastTurn, GetsUnit};
+ghost use Rattle.uda_c.specs.Last.{TellsLine};
 
-use crate::block_range::{BlockRange, Prepared};
 use crate::call_status::CallStatus;
 use crate::choices::bus_of;
 use crate::controller::Controller;
@@ -29,7 +29,7 @@ use crate::last::{TurnRecord, put_last_line};
 use crate::map::{MapRegisters, read_mapped, write_mapped};
 use crate::saving::restore_status;
 use crate::slot::Slot;
-use crate::snapshot::PortSnapshot;
+use crate::snapshot::{PortSnapshot, UnitSnapshot};
 use crate::turn_use::TurnUse;
 use crate::unit_images::UnitImages;
 use c_box::Loose;
@@ -86,7 +86,7 @@ pub extern "C" fn uda50_new_as(alloc: Global, handle: &mut Handle, bus: u32, fir
 /// Sets the drive type of a unit without an image.
 #[unsafe(no_mangle)]
 pub extern "C" fn uda50_set_type(handle: &mut Handle, unit: u32, drive_type: u32) -> u32
-    ensures sets { OnHandle handle.old.value handle.new.value (result ≡ status_code NoController)
+    ensures sets { OnRaised handle.old.value handle.new.value (result ≡ status_code NoController)
         (λ old new. (answer : CallStatus) × (result ≡ status_code answer)
         × SetsType old unit (type_numbered drive_type) answer new) }
     ensures valid { AreValid handle.old.value handle.new.value }
@@ -94,6 +94,7 @@ pub extern "C" fn uda50_set_type(handle: &mut Handle, unit: u32, drive_type: u32
     match handle.get() {
         Some(controller) => {
             controller.keep();
+            controller.raise();
             let answer = controller
                 .set_type(unit, DriveType::of_number(drive_type))
                 .code();
@@ -129,7 +130,7 @@ pub extern "C" fn uda50_attach(
     image: &mut Slot,
     write_protected: bool,
 ) -> u32
-    ensures attaches { OnHandle handle.old.value handle.new.value
+    ensures attaches { OnRaised handle.old.value handle.new.value
         ((result ≡ status_code NoController) × (image.new ≡ image.old))
         (λ old new. (answer : CallStatus) × (result ≡ status_code answer)
         × Attaches (old, image.old) unit write_protected answer (new, image.new)) }
@@ -143,6 +144,7 @@ pub extern "C" fn uda50_attach(
     match handle.get() {
         Some(controller) => {
             controller.keep();
+            controller.raise();
             let answer = controller.attach(unit, image, write_protected);
             controller.keep();
             answer.code()
@@ -154,7 +156,7 @@ pub extern "C" fn uda50_attach(
 /// Detaches the image of a unit, and puts its bytes into C's empty struct, as the commands left them.
 #[unsafe(no_mangle)]
 pub extern "C" fn uda50_detach(handle: &mut Handle, unit: u32, image: &mut Slot) -> u32
-    ensures detaches { OnHandle handle.old.value handle.new.value
+    ensures detaches { OnRaised handle.old.value handle.new.value
         ((result ≡ status_code NoController) × (image.new ≡ image.old))
         (λ old new. (answer : CallStatus) × (result ≡ status_code answer)
         × Detaches (old, image.old) unit answer (new, image.new)) }
@@ -164,6 +166,7 @@ pub extern "C" fn uda50_detach(handle: &mut Handle, unit: u32, image: &mut Slot)
     match handle.get() {
         Some(controller) => {
             controller.keep();
+            controller.raise();
             let answer = controller.detach(unit, image);
             controller.keep();
             answer.code()
@@ -172,10 +175,30 @@ pub extern "C" fn uda50_detach(handle: &mut Handle, unit: u32, image: &mut Slot)
     }
 }
 
+/// Moves the write-protect button of a unit's drive, while an image is attached.
+#[unsafe(no_mangle)]
+pub extern "C" fn uda50_set_protected(handle: &mut Handle, unit: u32, write_protected: bool) -> u32
+    ensures protects { OnRaised handle.old.value handle.new.value (result ≡ status_code NoController)
+        (λ old new. (answer : CallStatus) × (result ≡ status_code answer)
+        × SetsProtection old unit write_protected answer new) }
+    ensures valid { AreValid handle.old.value handle.new.value }
+{
+    match handle.get() {
+        Some(controller) => {
+            controller.keep();
+            controller.raise();
+            let answer = controller.set_protected(unit, write_protected).code();
+            controller.keep();
+            answer
+        }
+        None => CallStatus::NoController.code(),
+    }
+}
+
 /// Makes one block call of a unit's image fail, counted from now on.
 #[unsafe(no_mangle)]
 pub extern "C" fn uda50_inject_failure(handle: &mut Handle, unit: u32, call: u32) -> u32
-    ensures fails { OnHandle handle.old.value handle.new.value (result ≡ status_code NoController)
+    ensures fails { OnRaised handle.old.value handle.new.value (result ≡ status_code NoController)
         (λ old new. (answer : CallStatus) × (result ≡ status_code answer)
         × FailsAt old unit (Some call) answer new) }
     ensures valid { AreValid handle.old.value handle.new.value }
@@ -183,6 +206,7 @@ pub extern "C" fn uda50_inject_failure(handle: &mut Handle, unit: u32, call: u32
     match handle.get() {
         Some(controller) => {
             controller.keep();
+            controller.raise();
             let answer = controller.set_failing_call(unit, Some(call)).code();
             controller.keep();
             answer
@@ -212,7 +236,7 @@ pub extern "C" fn uda50_save(handle: &mut Handle, state: &mut [u8]) -> u32
 /// Continues from saved bytes, over the images that are attached.
 #[unsafe(no_mangle)]
 pub extern "C" fn uda50_restore(handle: &mut Handle, state: &[u8]) -> u32
-    ensures restores { OnHandle handle.old.value handle.new.value (result ≡ status_code NoController)
+    ensures restores { OnRaised handle.old.value handle.new.value (result ≡ status_code NoController)
         (λ old new. (answer : CallStatus) × (result ≡ status_code answer)
         × Restores old state.now answer new) }
     ensures valid { AreValid handle.old.value handle.new.value }
@@ -220,6 +244,7 @@ pub extern "C" fn uda50_restore(handle: &mut Handle, state: &[u8]) -> u32
     match handle.get() {
         Some(controller) => {
             controller.keep();
+            controller.raise();
             let answer = restore_status(controller.restore(state)).code();
             controller.keep();
             answer
@@ -231,12 +256,13 @@ pub extern "C" fn uda50_restore(handle: &mut Handle, state: &[u8]) -> u32
 /// Writes IP for the guest.
 #[unsafe(no_mangle)]
 pub extern "C" fn uda50_write_ip(handle: &mut Handle, word: u16)
-    ensures restarts { OnHandle handle.old.value handle.new.value Unit
+    ensures restarts { OnRaised handle.old.value handle.new.value Unit
         (λ old new. new ≡ record old { port = port_restarted old.port }) }
     ensures valid { AreValid handle.old.value handle.new.value }
 {
     if let Some(controller) = handle.get() {
         controller.keep();
+        controller.raise();
         controller.write_ip(word);
         controller.keep();
     }
@@ -246,13 +272,14 @@ pub extern "C" fn uda50_write_ip(handle: &mut Handle, word: u16)
 #[unsafe(no_mangle)]
 pub extern "C" fn uda50_read_ip(handle: &mut Handle) -> u16
     ensures reads_zero { result ≡ 0 }
-    ensures starts_polling { OnHandle handle.old.value handle.new.value Unit
+    ensures starts_polling { OnRaised handle.old.value handle.new.value Unit
         (λ old new. new ≡ record old { port = port_after_ip_read old.port.phase old.port }) }
     ensures valid { AreValid handle.old.value handle.new.value }
 {
     match handle.get() {
         Some(controller) => {
             controller.keep();
+            controller.raise();
             let answer = controller.read_ip();
             controller.keep();
             answer
@@ -263,15 +290,23 @@ pub extern "C" fn uda50_read_ip(handle: &mut Handle) -> u16
 
 /// Writes SA for the guest.
 #[unsafe(no_mangle)]
-pub extern "C" fn uda50_write_sa(handle: &mut Handle, word: u16, memory: &mut [u8])
-    ensures effect { OnHandle handle.old.value handle.new.value (memory.new ≡ memory.old)
-        (λ old new. WritesSa old memory.old word new memory.new) }
+pub extern "C" fn uda50_write_sa(handle: &mut Handle, word: u16, memory: &mut [u8]) -> u32
+    ensures effect { OnRaised handle.old.value handle.new.value
+        ((result ≡ status_code NoController) × (memory.new ≡ memory.old))
+        (λ old new. (answer : CallStatus) × (result ≡ status_code answer)
+        × UnlessCalled (old, memory.old) answer (new, memory.new)
+        ((answer ≡ Done) × WritesSa old memory.old word new memory.new)) }
     ensures valid { AreValid handle.old.value handle.new.value }
 {
-    if let Some(controller) = handle.get() {
-        controller.keep();
-        controller.write_sa(word, memory);
-        controller.keep();
+    match handle.get() {
+        Some(controller) => {
+            controller.keep();
+            controller.raise();
+            let answer = controller.write_sa(word, memory).code();
+            controller.keep();
+            answer
+        }
+        None => CallStatus::NoController.code(),
     }
 }
 
@@ -296,15 +331,17 @@ pub extern "C" fn uda50_read_sa(handle: &mut Handle) -> u16
 /// Runs one turn of the port in the guest's memory.
 #[unsafe(no_mangle)]
 pub extern "C" fn uda50_turn(handle: &mut Handle, memory: &mut [u8]) -> u32
-    ensures effect { OnHandle handle.old.value handle.new.value
+    ensures effect { OnRaised handle.old.value handle.new.value
         ((result ≡ status_code NoController) × (memory.new ≡ memory.old))
         (λ old new. (answer : CallStatus) × (result ≡ status_code answer)
-        × TurnsWhereMemory old memory.old answer new memory.new) }
+        × UnlessCalled (old, memory.old) answer (new, memory.new)
+        (TurnsWhereMemory old memory.old answer new memory.new)) }
     ensures valid { AreValid handle.old.value handle.new.value }
 {
     match handle.get() {
         Some(controller) => {
             controller.keep();
+            controller.raise();
             let answer = controller.turn(memory).code();
             controller.keep();
             answer
@@ -316,7 +353,7 @@ pub extern "C" fn uda50_turn(handle: &mut Handle, memory: &mut [u8]) -> u32
 /// Takes the pending interrupt request, if there is one.
 #[unsafe(no_mangle)]
 pub extern "C" fn uda50_take_interrupt(handle: &mut Handle, vector: &mut u16) -> bool
-    ensures takes { OnHandle handle.old.value handle.new.value
+    ensures takes { OnRaised handle.old.value handle.new.value
         ((result ≡ false) × (vector.new ≡ vector.old))
         (λ old new. TakesInterrupt old vector.old result new vector.new) }
     ensures valid { AreValid handle.old.value handle.new.value }
@@ -325,6 +362,7 @@ pub extern "C" fn uda50_take_interrupt(handle: &mut Handle, vector: &mut u16) ->
         return false;
     };
     controller.keep();
+    controller.raise();
     let request = controller.take_interrupt();
     controller.keep();
     match request {
@@ -339,15 +377,17 @@ pub extern "C" fn uda50_take_interrupt(handle: &mut Handle, vector: &mut u16) ->
 /// Runs up to `turns` turns of the port, and stops after the first that does nothing.
 #[unsafe(no_mangle)]
 pub extern "C" fn uda50_run(handle: &mut Handle, turns: u32, memory: &mut [u8]) -> u32
-    ensures runs { OnHandle handle.old.value handle.new.value
+    ensures runs { OnRaised handle.old.value handle.new.value
         ((result ≡ status_code NoController) × (memory.new ≡ memory.old))
         (λ old new. (answer : CallStatus) × (result ≡ status_code answer)
-        × RunsWhereMemory turns (old, memory.old) answer (new, memory.new)) }
+        × UnlessCalled (old, memory.old) answer (new, memory.new)
+        (RunsWhereMemory turns (old, memory.old) answer (new, memory.new))) }
     ensures valid { AreValid handle.old.value handle.new.value }
 {
     match handle.get() {
         Some(controller) => {
             controller.keep();
+            controller.raise();
             let answer = controller.run(turns, memory).code();
             controller.keep();
             answer
@@ -356,29 +396,32 @@ pub extern "C" fn uda50_run(handle: &mut Handle, turns: u32, memory: &mut [u8]) 
     }
 }
 
-/// Fills in the descriptors that the next turn reads in a window into the guest's memory.
+/// Begins a turn: fills the struct with the descriptors that it reads in a window into the guest's memory.
 #[unsafe(no_mangle)]
 pub extern "C" fn uda50_get_descriptors(
     handle: &mut Handle,
     window: &[u8],
     turn: &mut TurnUse,
 ) -> u32
-    ensures gets { OnHandle handle.old.value handle.new.value
+    ensures begins { OnHandle handle.old.value handle.new.value
         ((result ≡ status_code NoController) × (turn.new ≡ turn.old))
-        (λ old new. (answer : CallStatus) × (result ≡ status_code answer) × (new ≡ old)
-        × GetsDescriptors old window.now turn.old answer turn.new) }
+        (λ old new. (answer : CallStatus) × (result ≡ status_code answer)
+        × BeginsTurn (old, turn.old) window.now answer (new, turn.new)) }
     ensures valid { AreValid handle.old.value handle.new.value }
 {
     match handle.get() {
         Some(controller) => {
             controller.keep();
-            controller.get_descriptors(window, turn).code()
+            let answer = controller.get_descriptors(window, turn).code();
+            controller.keep();
+            answer
         }
         None => CallStatus::NoController.code(),
     }
 }
 
-/// Fills in the command that the next turn executes, and what the turn uses besides the descriptors.
+/// Fills in the command that the next turn executes, what the turn uses besides the descriptors, and the blocks that it
+/// uses of an image that C reads and writes.
 #[unsafe(no_mangle)]
 pub extern "C" fn uda50_get_body(handle: &mut Handle, window: &[u8], turn: &mut TurnUse) -> u32
     ensures gets { OnHandle handle.old.value handle.new.value
@@ -396,13 +439,14 @@ pub extern "C" fn uda50_get_body(handle: &mut Handle, window: &[u8], turn: &mut 
     }
 }
 
-/// Runs one turn of the port over a window into the guest's memory, and fills in what it wrote.
+/// Runs one turn of the port over a window into the guest's memory, and fills in what it wrote. The blocks that C has
+/// moved are ready only for this turn.
 #[unsafe(no_mangle)]
 pub extern "C" fn uda50_turn_at(handle: &mut Handle, window: &mut [u8], turn: &mut TurnUse) -> u32
     ensures effect { OnHandle handle.old.value handle.new.value
         ((result ≡ status_code NoController) × ((window.new ≡ window.old) × (turn.new ≡ turn.old)))
         (λ old new. (answer : CallStatus) × (result ≡ status_code answer)
-        × TurnsAtWhereMemory (old, window.old) turn.old answer turn.new (new, window.new)) }
+        × TurnsAt (old, window.old) turn.old answer turn.new (new, window.new)) }
     ensures valid { AreValid handle.old.value handle.new.value }
 {
     match handle.get() {
@@ -449,7 +493,7 @@ pub extern "C" fn uda50_write_sa_at(
     missing: bool,
     area: &mut ByteRange,
 ) -> u32
-    ensures effect { OnHandle handle.old.value handle.new.value
+    ensures effect { OnRaised handle.old.value handle.new.value
         ((result ≡ status_code NoController) × ((window.new ≡ window.old) × (area.new ≡ area.old)))
         (λ old new. (result ≡ status_code Done)
         × WritesSaAt missing (old, window.old) word area.new (new, window.new)) }
@@ -458,34 +502,10 @@ pub extern "C" fn uda50_write_sa_at(
     match handle.get() {
         Some(controller) => {
             controller.keep();
+            controller.raise();
             *area = controller.write_sa_at(word, window, missing);
             controller.keep();
             CallStatus::Done.code()
-        }
-        None => CallStatus::NoController.code(),
-    }
-}
-
-/// Runs one turn of the port over memory through map registers.
-#[unsafe(no_mangle)]
-pub extern "C" fn uda50_turn_mapped(
-    handle: &mut Handle,
-    memory: &mut [u8],
-    map: &MapRegisters<'_>,
-) -> u32
-    ensures effect { OnHandle handle.old.value handle.new.value
-        ((result ≡ status_code NoController) × (memory.new ≡ memory.old))
-        (λ old new. (answer : CallStatus) × (result ≡ status_code answer)
-        × OverMap map.now (old, memory.old) answer (new, memory.new)
-        (λ bus. TakesTurnThroughMap bus (old, memory.old) answer (new, memory.new))) }
-    ensures valid { AreValid handle.old.value handle.new.value }
-{
-    match handle.get() {
-        Some(controller) => {
-            controller.keep();
-            let answer = controller.turn_mapped(memory, map).code();
-            controller.keep();
-            answer
         }
         None => CallStatus::NoController.code(),
     }
@@ -499,16 +519,18 @@ pub extern "C" fn uda50_run_mapped(
     memory: &mut [u8],
     map: &MapRegisters<'_>,
 ) -> u32
-    ensures runs { OnHandle handle.old.value handle.new.value
+    ensures runs { OnRaised handle.old.value handle.new.value
         ((result ≡ status_code NoController) × (memory.new ≡ memory.old))
         (λ old new. (answer : CallStatus) × (result ≡ status_code answer)
-        × OverMap map.now (old, memory.old) answer (new, memory.new)
-        (λ bus. TakesTurnsThroughMap bus turns Done (old, memory.old) (answer, (new, memory.new)))) }
+        × UnlessCalled (old, memory.old) answer (new, memory.new)
+        (OverMap map.now (old, memory.old) answer (new, memory.new)
+        (λ bus. TakesTurnsThroughMap bus turns Done (old, memory.old) (answer, (new, memory.new))))) }
     ensures valid { AreValid handle.old.value handle.new.value }
 {
     match handle.get() {
         Some(controller) => {
             controller.keep();
+            controller.raise();
             let answer = controller.run_mapped(turns, memory, map).code();
             controller.keep();
             answer
@@ -525,16 +547,18 @@ pub extern "C" fn uda50_write_sa_mapped(
     memory: &mut [u8],
     map: &MapRegisters<'_>,
 ) -> u32
-    ensures effect { OnHandle handle.old.value handle.new.value
+    ensures effect { OnRaised handle.old.value handle.new.value
         ((result ≡ status_code NoController) × (memory.new ≡ memory.old))
         (λ old new. (answer : CallStatus) × (result ≡ status_code answer)
-        × OverMap map.now (old, memory.old) answer (new, memory.new)
-        (λ bus. WritesSaOver bus (old, memory.old) word answer (new, memory.new))) }
+        × UnlessCalled (old, memory.old) answer (new, memory.new)
+        (OverMap map.now (old, memory.old) answer (new, memory.new)
+        (λ bus. WritesSaOver bus (old, memory.old) word answer (new, memory.new)))) }
     ensures valid { AreValid handle.old.value handle.new.value }
 {
     match handle.get() {
         Some(controller) => {
             controller.keep();
+            controller.raise();
             let answer = controller.write_sa_mapped(word, memory, map).code();
             controller.keep();
             answer
@@ -551,7 +575,7 @@ pub extern "C" fn uda50_attach_called(
     blocks: u64,
     write_protected: bool,
 ) -> u32
-    ensures attaches { OnHandle handle.old.value handle.new.value (result ≡ status_code NoController)
+    ensures attaches { OnRaised handle.old.value handle.new.value (result ≡ status_code NoController)
         (λ old new. (answer : CallStatus) × (result ≡ status_code answer)
         × AttachesCalled old (unit, (blocks, write_protected)) answer new) }
     ensures valid { AreValid handle.old.value handle.new.value }
@@ -559,34 +583,10 @@ pub extern "C" fn uda50_attach_called(
     match handle.get() {
         Some(controller) => {
             controller.keep();
+            controller.raise();
             let answer = controller
                 .attach_called(unit, blocks, write_protected)
                 .code();
-            controller.keep();
-            answer
-        }
-        None => CallStatus::NoController.code(),
-    }
-}
-
-/// Fills in the blocks that the next turn uses of an image that C reads and writes. None of them is ready then.
-#[unsafe(no_mangle)]
-pub extern "C" fn uda50_get_blocks(
-    handle: &mut Handle,
-    window: &[u8],
-    turn: &TurnUse,
-    blocks: &mut BlockRange,
-) -> u32
-    ensures gets { OnHandle handle.old.value handle.new.value
-        ((result ≡ status_code NoController) × (blocks.new ≡ blocks.old))
-        (λ old new. (answer : CallStatus) × (result ≡ status_code answer)
-        × GetsBlocks (old, blocks.old) window.now turn.now answer (new, blocks.new)) }
-    ensures valid { AreValid handle.old.value handle.new.value }
-{
-    match handle.get() {
-        Some(controller) => {
-            controller.keep();
-            let answer = controller.get_blocks(window, turn, blocks).code();
             controller.keep();
             answer
         }
@@ -613,46 +613,6 @@ pub extern "C" fn uda50_get_written(
         Some(controller) => {
             controller.keep();
             controller.get_written(window, turn, skip, to).code()
-        }
-        None => CallStatus::NoController.code(),
-    }
-}
-
-/// Lends the bytes of blocks of a unit's image from block `first` on.
-#[unsafe(no_mangle)]
-pub extern "C" fn uda50_lend_blocks(handle: &mut Handle, unit: u32, first: u32, from: &[u8]) -> u32
-    ensures lends { OnHandle handle.old.value handle.new.value (result ≡ status_code NoController)
-        (λ old new. (answer : CallStatus) × (result ≡ status_code answer)
-        × LendsBlocks old (unit, first) from.now answer new) }
-    ensures valid { AreValid handle.old.value handle.new.value }
-{
-    match handle.get() {
-        Some(controller) => {
-            controller.keep();
-            let answer = controller.lend_blocks(unit, first, from).code();
-            controller.keep();
-            answer
-        }
-        None => CallStatus::NoController.code(),
-    }
-}
-
-/// Makes the next blocks of a unit's image ready, which C checked or wrote.
-#[unsafe(no_mangle)]
-pub extern "C" fn uda50_allow_blocks(handle: &mut Handle, unit: u32, access: u32, count: u32) -> u32
-    ensures allows { OnHandle handle.old.value handle.new.value (result ≡ status_code NoController)
-        (λ old new. (answer : CallStatus) × (result ≡ status_code answer)
-        × AllowsBlocks old (unit, count) (prepared_numbered access) answer new) }
-    ensures valid { AreValid handle.old.value handle.new.value }
-{
-    match handle.get() {
-        Some(controller) => {
-            controller.keep();
-            let answer = controller
-                .allow_blocks(unit, Prepared::of_number(access), count)
-                .code();
-            controller.keep();
-            answer
         }
         None => CallStatus::NoController.code(),
     }
@@ -691,14 +651,14 @@ pub extern "C" fn uda50_write_mapped(
 pub extern "C" fn uda50_get_state(handle: &mut Handle, state: &mut PortSnapshot) -> u32
     ensures shows { OnHandle handle.old.value handle.new.value
         ((result ≡ status_code NoController) × (state.new ≡ state.old))
-        (λ old new. (result ≡ status_code Done) × (new ≡ old) × (state.new ≡ port_snapshot old.port)) }
+        (λ old new. (answer : CallStatus) × (result ≡ status_code answer) × (new ≡ old)
+        × GetsState old state.old answer state.new) }
     ensures valid { AreValid handle.old.value handle.new.value }
 {
     match handle.get() {
         Some(controller) => {
             controller.keep();
-            *state = PortSnapshot::of(&controller.port);
-            CallStatus::Done.code()
+            controller.get_state(state).code()
         }
         None => CallStatus::NoController.code(),
     }
@@ -709,14 +669,32 @@ pub extern "C" fn uda50_get_state(handle: &mut Handle, state: &mut PortSnapshot)
 pub extern "C" fn uda50_get_last_turn(handle: &mut Handle, turn: &mut TurnRecord) -> u32
     ensures accurate { OnHandle handle.old.value handle.new.value
         ((result ≡ status_code NoController) × (turn.new ≡ turn.old))
-        (λ old new. (result ≡ status_code Done) × (new ≡ old) × (turn.new ≡ turn_record old.last)) }
+        (λ old new. (answer : CallStatus) × (result ≡ status_code answer) × (new ≡ old)
+        × GetsLastTurn old turn.old answer turn.new) }
     ensures valid { AreValid handle.old.value handle.new.value }
 {
     match handle.get() {
         Some(controller) => {
             controller.keep();
-            *turn = TurnRecord::of(controller.last);
-            CallStatus::Done.code()
+            controller.get_last_turn(turn).code()
+        }
+        None => CallStatus::NoController.code(),
+    }
+}
+
+/// Copies a unit's drive type, image and mode into C's struct.
+#[unsafe(no_mangle)]
+pub extern "C" fn uda50_get_unit(handle: &mut Handle, unit: u32, info: &mut UnitSnapshot) -> u32
+    ensures shows { OnHandle handle.old.value handle.new.value
+        ((result ≡ status_code NoController) × (info.new ≡ info.old))
+        (λ old new. (answer : CallStatus) × (result ≡ status_code answer) × (new ≡ old)
+        × GetsUnit old unit info.old answer info.new) }
+    ensures valid { AreValid handle.old.value handle.new.value }
+{
+    match handle.get() {
+        Some(controller) => {
+            controller.keep();
+            controller.get_unit(unit, info).code()
         }
         None => CallStatus::NoController.code(),
     }

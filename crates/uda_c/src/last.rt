@@ -12,6 +12,8 @@ use uda_port::Trace;
 #[repr(C)]
 #[derive(Clone, Copy, Debug, PartialEq, Eq)]
 pub struct TurnRecord {
+    /// The number of bytes of C's struct.
+    pub size: usize,
     /// The number of the turn's kind.
     pub kind: u32,
     /// The command's reference number.
@@ -29,6 +31,9 @@ pub struct TurnRecord {
 }
 
 impl TurnRecord {
+    /// The number of bytes of the struct.
+    pub const SIZE: usize = 32;
+
     /// Returns the record of a trace, or of no turn yet.
     pub fn of(trace: Option<Trace>) -> TurnRecord
         ensures told { result ≡ turn_record trace }
@@ -52,6 +57,7 @@ impl TurnRecord {
         ensures { result ≡ told_number kind code }
     {
         TurnRecord {
+            size: TurnRecord::SIZE,
             kind,
             reference: 0,
             lbn: 0,
@@ -72,6 +78,7 @@ impl TurnRecord {
             None => (0, 0),
         };
         TurnRecord {
+            size: TurnRecord::SIZE,
             kind: 1,
             reference: command.reference,
             lbn,
@@ -91,6 +98,7 @@ impl TurnRecord {
             _ => 0,
         };
         TurnRecord {
+            size: TurnRecord::SIZE,
             kind,
             reference: end.reference,
             lbn: 0,

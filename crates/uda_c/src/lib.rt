@@ -9,6 +9,7 @@ mod controller;
 mod exports;
 mod fits;
 mod handle;
+mod inspection;
 mod last;
 mod lent;
 mod lent_image;

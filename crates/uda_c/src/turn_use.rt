@@ -1,14 +1,27 @@
-//! What the next turn uses of memory through map registers, for C.
+//! What the next turn uses of memory and of images, for C, and the steps of a turn.
 ghost use Rattle.std.specs.Prelude.{◌≡◌};
-ghost use Rattle.uda_c.specs.TurnUse.{missing_of};
+ghost use Rattle.uda_c.specs.Slots.{is_empty};
+ghost use Rattle.uda_c.specs.TurnUse.{missing_of, missing_before_body};
+ghost use Rattle.uda_c.specs.Steps.{step_code, is_short, is_current, emptied, has_bytes};
+ghost use Rattle.uda_c.specs.ControllerState.{ControllerState};
 
+use crate::block_range::BlockRange;
+use crate::slot::Slot;
 use uda_mem::ByteRange;
 use uda_port::Missing;
 
-/// What the next turn uses of guest memory, and what it wrote, in the form of C.
+/// What the next turn uses of guest memory and of an image by calls, and what it wrote, in the form of C.
 #[repr(C)]
-#[derive(Clone, Copy, Debug, PartialEq, Eq)]
+#[derive(Drop)]
 pub struct TurnUse {
+    /// The number of bytes that C has for the struct.
+    pub size: usize,
+    /// The number that C gives the controller.
+    pub controller: u64,
+    /// How often calls had changed the controller when the turn began.
+    pub count: u64,
+    /// The step that was done last, by its number.
+    pub step: u32,
     /// The ranges of the next command descriptor, the one before it, the next response descriptor, and the one
     /// before that.
     pub descriptors: [ByteRange; 4],
@@ -21,9 +34,48 @@ pub struct TurnUse {
     /// Which addresses lead nowhere: bit 0 those of the next command descriptor, bit 1 those of the next response
     /// descriptor, bit 2 those of the body.
     pub missing: u32,
+    /// 1 if the turn reads the body, and 0 if its addresses need only lead somewhere.
+    pub reads_body: u32,
+    /// The blocks of an image by calls that the turn uses, unless an address of the body leads nowhere.
+    pub blocks: BlockRange,
+    /// How many of these blocks C has moved, from the first on.
+    pub ready: u32,
+    /// The bytes of these blocks, if the turn reads them.
+    pub lent: Slot,
+}
+
+/// The number of bytes of the struct in C.
+pub const STRUCT_LENGTH: usize = 152;
+
+/// A step that another one follows.
+#[derive(Clone, Copy, Debug, PartialEq, Eq)]
+pub enum Step {
+    /// The turn began: its descriptors are filled in.
+    Began,
+    /// What else it uses is filled in.
+    Filled,
+}
+
+impl Step {
+    /// Returns the number of the step in C.
+    pub fn code(self) -> u32
+        ensures { result ≡ step_code self }
+    {
+        match self {
+            Step::Began => 1,
+            Step::Filled => 2,
+        }
+    }
 }
 
 impl TurnUse {
+    /// Returns whether C has fewer bytes for the struct.
+    pub fn is_short(&self) -> bool
+        ensures { result ≡ is_short self.now }
+    {
+        self.size < STRUCT_LENGTH
+    }
+
     /// Returns which addresses lead nowhere.
     pub fn missing(&self) -> Missing
         ensures { result ≡ missing_of self.now.missing }
@@ -33,5 +85,30 @@ impl TurnUse {
             responses: self.missing >> 1 & 1 != 0,
             body: self.missing >> 2 & 1 != 0,
         }
+    }
+
+    /// Returns which addresses lead nowhere, as if all those of the body led somewhere.
+    pub fn missing_before_body(&self) -> Missing
+        ensures { result ≡ missing_before_body self.now.missing }
+    {
+        Missing {
+            body: false,
+            ..self.missing()
+        }
+    }
+
+    /// Returns whether C has lent as many bytes as the ready blocks have, if the turn reads them.
+    pub fn has_bytes(&mut self) -> bool
+        ensures value { result ≡ has_bytes self.old }
+        ensures same { self.new ≡ self.old }
+    {
+        self.blocks.access != 1 || self.lent.length() == 512 * self.ready as usize
+    }
+
+    /// Empties the struct of bytes that C has lent.
+    pub fn forget_lent(&mut self)
+        ensures { self.new ≡ record self.old { lent = emptied self.old.lent } }
+    {
+        if let Some(_lent) = self.lent.take() {}
     }
 }

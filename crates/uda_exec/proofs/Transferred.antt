@@ -248,7 +248,7 @@ never_fails_there t memory store mode passed never =
     (nat_lt store.size (e.lbn + blocks_for e.bytes)) e.writes mode.hard _ changes (none_found _ _ _ passed).nothing)
 
 -- the first k blocks and the content of block k
-moved-lost : (k : ℕ) (left : List ℕ) (blocks : List (List ℕ)) → k < length blocks
+pub moved-lost : (k : ℕ) (left : List ℕ) (blocks : List (List ℕ)) → k < length blocks
     → blocks_moved (Lost k left) blocks ≡ take k blocks ++ left ∷ []
 moved-lost k left blocks h =
     let more : take (suc k) blocks ≡ take k blocks ++ get_or blocks k [] ∷ [] =
@@ -313,7 +313,7 @@ module _ (t : Transfer) (memory : List ℕ) where
   data_read-asks kind.Write blocks = refl
 
   -- the end message of an accepted transfer whose blocks are whole
-  end-asks : (c : Command) (o : TransferOutcome) (disk : Disk) (k : Kind)
+  pub end-asks : (c : Command) (o : TransferOutcome) (disk : Disk) (k : Kind)
       → AreBlocks (due (asks_by k t memory) disk.blocks) → length (due (asks_by k t memory) disk.blocks)
       ≡ block_count t → IsWithinRange (block_count t) o
       → reply c (transfer_status o) (plain_body c.op (transfer_bytes o t.bytes))

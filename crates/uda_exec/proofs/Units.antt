@@ -61,7 +61,7 @@ module _ (old new : List (Option UnitState)) (same : unit_attributes new ≡ uni
   sure_stays = sym (asked_sure (slice_get new u)) ∙ ap (asked never_fails) attributes_stay
       ∙ asked_sure (slice_get old u)
 
-sound_if_faithful : (slot : Option (Option UnitState)) → is_faithful slot ≡ true → is_sound_at slot ≡ true
+pub sound_if_faithful : (slot : Option (Option UnitState)) → is_faithful slot ≡ true → is_sound_at slot ≡ true
 sound_if_faithful None faithful = refl
 sound_if_faithful (Some None) faithful = refl
 sound_if_faithful (Some (Some unit)) faithful = sound_of_faithful unit.store faithful
@@ -141,6 +141,7 @@ executes_idle c units memory e h answers = record {
   };
   takes_effect = λ trusted. takes_idle c units memory e h;
   sound_before = λ u sound. sound;
+  whole_before = λ acting. let not : false ≡ true = sym h.idle ∙ acting in absurd (cc);
   well_formed_if_sound = λ whole. whole;
   takes_effect_if_sound = λ trusted. takes_idle c units memory e h;
 }
@@ -199,9 +200,10 @@ module _ (c : Command) (act : Act) (units : List (Option UnitState)) (memory : L
         infallible = λ never. let promised = rw here at never in t.infallible promised;
       }
 
-  pub executes_on : ServesUnit c act unit memory e unit_after memory_left → IsWellFormedIfSound (Some unit_after)
+  pub executes_on : ServesUnit c act unit memory e unit_after memory_left → IsWellFormedIfSound (Some unit)
+      → IsWellFormedIfSound (Some unit_after)
       → Executes c units memory e (set units c.unit (Some unit_after)) memory_left
-  executes_on s whole = record {
+  executes_on s before whole = record {
     answers = s.answers;
     memory_stays = s.memory_stays;
     memory_is_kept = λ unread. ChangesAt-none memory memory_left _ (rw unread at s.memory_stays);
@@ -218,6 +220,7 @@ module _ (c : Command) (act : Act) (units : List (Option UnitState)) (memory : L
         let faithful = trusted (ap (λ (a : Bool). nat_lt 0 (blocks_asked c.op) && a) acting ∙ calls) in
         rw here at faithful));
     sound_before = sound_set units c.unit unit unit_after here s.sound_before;
+    whole_before = λ acts. rw here before;
     well_formed_if_sound = All-set IsWellFormedIfSound units c.unit (Some unit_after) whole;
     takes_effect_if_sound = λ trusted. takes_on (s.takes_effect_if_sound (λ calls.
         let sound = trusted (ap (λ (a : Bool). nat_lt 0 (blocks_asked c.op) && a) acting ∙ calls) in

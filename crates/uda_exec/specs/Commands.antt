@@ -51,6 +51,11 @@ buffer_length o = option_map_or transfer_buffer_length (transfer_of o) 0
 abbrev pub memory_write_length : Op → ℕ
 memory_write_length o = option_map_or (λ t. if changes_memory t.kind then t.bytes else 0) (transfer_of o) 0
 
+-- the number of bytes of its buffer that it reads: a Read reads none
+abbrev pub memory_read_length : Op → ℕ
+memory_read_length o =
+    option_map_or (λ t. if changes_memory t.kind then 0 else transfer_buffer_length t) (transfer_of o) 0
+
 -- ---- the request of a command
 
 -- the bytes of a buffer, with zeros past the end of memory

@@ -1,6 +1,6 @@
 -- The effect of one execution: an eligible pending command is removed and executed.
 -- MSCP Basic Disk Functions Manual: command ordering, end messages.
-use Rattle.std.specs.Prelude.{◌≡◌, ◌≢◌, ℕ, ◌+◌, ◌≤◌, Bool, true, false, ◌&&◌, List, length, Option, Some}
+use Rattle.std.specs.Prelude.{◌≡◌, ◌≢◌, ℕ, ◌+◌, ◌≤◌, Bool, true, false, ◌&&◌, List, length, Option, Some, None}
 use Rattle.std.specs.Prelude.{slice_get, nat_lt, remove, if◌then◌else◌}
 use Rattle.uda_image.specs.Store.{CallsSucceed, FailsAtCall, is_sound}
 use Rattle.uda_packet.specs.declared.command.Command.{Command}
@@ -13,7 +13,7 @@ use Rattle.uda_disk.specs.Request.{Act}
 use Rattle.uda_disk.specs.RequestEffect.{CheckResult, TransferOutcome, Done, Lost, is_lost, answer_by, is_accepted, disk_by, IsWithinRange}
 use Rattle.uda_disk.specs.RequestEffect.{transfer_status, transfer_bytes}
 use Rattle.uda_disk.specs.Units.{UnitState, Units, disk_of, disks_of, is_faithful, is_infallible, failures_at}
-use Rattle.uda_disk.specs.Units.{failing_call_at, is_sound_at, AreSoundBefore, AreWellFormedIfSound}
+use Rattle.uda_disk.specs.Units.{failing_call_at, is_sound_at, AreSoundBefore, AreWellFormedIfSound, IsWellFormedIfSound}
 use Rattle.uda_disk.specs.Units.{attributes_of, unit_attributes, modes_of}
 use Rattle.uda_exec.specs.Disks.{ExecState}
 use Rattle.uda_exec.specs.Commands.{is_transfer, blocks_asked, bytes_asked, buffer_start, memory_write_length}
@@ -81,6 +81,11 @@ StoreIsSound c units memory units_after =
     nat_lt 0 (blocks_asked c.op) && passes_checks c (world_of units memory) ≡ true
     → is_sound_at (slice_get units_after c.unit) ≡ true
 
+-- the blocks of a unit's store are whole, if it is sound
+abbrev pub HasWholeStore : Option (Option UnitState) → Type 0
+HasWholeStore (Some unit) = IsWellFormedIfSound unit
+HasWholeStore None = Unit {0}
+
 -- a transfer succeeded, or failed at a block of its range, and its end message reports that
 pub record EndsTransfer (c : Command) (e : End) : Type 0 where
   pub outcome : TransferOutcome
@@ -101,7 +106,8 @@ pub record EffectByChecks (c : Command) (acting : Bool) (units : Units) (e : End
 -- - A transfer leaves the mode unchanged; if it is accepted, it succeeds or fails.
 -- - A rejected command changes no unit. A command that calls no store, and one with a faithful store, has its
 --   complete effect. So has one whose store is sound afterwards.
--- - A store that is sound afterwards was sound before. Units that were well formed if sound still are.
+-- - A store that is sound afterwards was sound before. Units that were well formed if sound still are, and an accepted
+--   command's unit was.
 pub record Executes (c : Command) (units : Units) (memory : List ℕ) (e : End) (units_after : Units)
     (memory_left : List ℕ) : Type 0 where
   pub answers : Answers c e
@@ -113,6 +119,7 @@ pub record Executes (c : Command) (units : Units) (memory : List ℕ) (e : End) 
   pub by_checks : EffectByChecks c (passes_checks c (world_of units memory)) units e units_after
   pub takes_effect : StoreIsFaithful c units memory → TakesEffect c units memory e units_after memory_left
   pub sound_before : AreSoundBefore units units_after
+  pub whole_before : passes_checks c (world_of units memory) ≡ true → HasWholeStore (slice_get units c.unit)
   pub well_formed_if_sound : AreWellFormedIfSound units → AreWellFormedIfSound units_after
   pub takes_effect_if_sound : StoreIsSound c units memory units_after
       → TakesEffect c units memory e units_after memory_left

@@ -2,12 +2,12 @@
 //!
 //! MSCP Basic Disk Functions Manual: transfer commands, Compare Host Data.
 ghost use Rattle.std.specs.Prelude.{◌≡◌};
-ghost use Rattle.uda_exec.specs.BufferUse.{buffer_use, used_length, changed_length};
+ghost use Rattle.uda_exec.specs.BufferUse.{buffer_use, used_length, changed_length, bytes_moved};
 ghost use Rattle.uda_exec.specs.Commands.{buffer_length, memory_write_length};
 
 use crate::compare::compared;
 use crate::refusal::transfer_buffer_length;
-use uda_packet::{GuestCommand, GuestOp, Kind, Op};
+use uda_packet::{EndBody, GuestCommand, GuestOp, Kind, Op, ReplyBody};
 
 /// The buffer of a command, and how many of its bytes the command uses.
 #[derive(Clone, Copy, Debug, PartialEq, Eq)]
@@ -28,6 +28,19 @@ pub fn buffer_use(asked: GuestCommand) -> BufferUse
         start: compared(asked.command.op).buffer,
         used: used_length(asked.op, asked.command.op),
         changed: changed_length(asked.op, asked.command.op),
+    }
+}
+
+/// Returns the byte count of an end message, if its command is one of the strict profile, or else 0. A Read has
+/// moved that many bytes to its buffer. The rest of its buffer isn't part of its result.
+///
+/// MSCP Basic Disk Functions Manual: end messages, byte count.
+pub fn bytes_moved(body: ReplyBody) -> u32
+    ensures bytes { result ≡ bytes_moved body }
+{
+    match body {
+        ReplyBody::Basic(EndBody::Moved { bytes, .. }) => bytes,
+        _ => 0,
     }
 }
 

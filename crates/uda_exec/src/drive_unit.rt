@@ -127,6 +127,7 @@ impl<S: BlockStore> DriveUnit<S> {
             → ServesUnit command act self.old memory.old result self.new memory.new }
         ensures image { IsWellFormed (Some self.new) }
         ensures image_if_sound { IsWellFormedIfSound (Some self.new) }
+        ensures image_before { IsWellFormedIfSound (Some self.old) }
     {
         if let Some(refusal) = transfer_refusal(
             t,
@@ -155,6 +156,7 @@ impl<S: BlockStore> DriveUnit<S> {
             self.new ≡ record self.old { mode = mode_after act self.old.mode }) }
         ensures image { IsWellFormed (Some self.new) }
         ensures image_if_sound { IsWellFormedIfSound (Some self.new) }
+        ensures image_before { IsWellFormedIfSound (Some self.old) }
     {
         let was_online = self.mode.online;
         match command.op {
@@ -198,6 +200,7 @@ impl<S: BlockStore> DriveUnit<S> {
             → ServesUnit command act self.old memory.old result self.new memory.new }
         ensures image { IsWellFormed (Some self.new) }
         ensures image_if_sound { IsWellFormedIfSound (Some self.new) }
+        ensures image_before { IsWellFormedIfSound (Some self.old) }
     {
         match command.op.transfer() {
             Some(t) => self.transfer(command, t, memory),

@@ -232,6 +232,9 @@ impl<S: BlockStore> Exec<S> {
     /// Executes one eligible pending command, removes it, and returns its end message. Returns None if
     /// nothing is pending, and then nothing changes.
     ///
+    /// The command is executed as the strict profile does, without its additional operation.
+    /// [`execute_at_in`](Exec::execute_at_in) executes that, too.
+    ///
     /// A command is eligible if for each older one either the units differ or both are transfers. The
     /// contract leaves open which eligible command is chosen. The code takes the oldest that isn't a
     /// transfer. If there is none, it takes the next transfer in unit and block order, at or after the

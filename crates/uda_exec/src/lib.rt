@@ -26,7 +26,7 @@ mod saved;
 mod scheduler;
 
 pub use block_use::{BlockAccess, BlockUse};
-pub use buffer_use::BufferUse;
+pub use buffer_use::{BufferUse, bytes_moved};
 pub use drive_unit::UnitInfo;
 pub use executor::{Exec, PENDING};
 pub use saved::{SavedExec, restored_is_saved};

@@ -1,10 +1,12 @@
 -- What a turn does, it does in each memory that agrees where the turn reads.
 use Rattle.std.proofs.Common.{◌≡◌, ℕ, zero, suc, ◌+◌, ◌-◌, ◌%◌, ◌<◌, ◌≤◌, min, Bool, true, false, List, [], ◌∷◌, length, Option, Some, None, refl, sym, ap, ap₂, subst, ◌∙◌, arith, zero-le, length-append}
 use Rattle.std.specs.Prelude.{◌&&◌, ◌||◌, ◌++◌, All, nat_eq, nat_le, option_map, slice_get, if◌then◌else◌}
-use Rattle.std.proofs.lemmas.Bool.{and_parts, eq-eqb, leb-true, le-leb}
+use Rattle.std.specs.Option.{option_map_or}
+use Rattle.std.proofs.Math.Seq.{get_or-append_seam}
+use Rattle.std.proofs.lemmas.Bool.{and_parts, cond_both, eq-eqb, leb-true, le-leb}
 use Rattle.std.proofs.lemmas.Bool.Decides.{nat_tests}
 use Rattle.std.proofs.lemmas.List.Elements.{All-nil, All-cons, All-head, All-tail}
-use Rattle.std.proofs.lemmas.Option.{slice_get_past}
+use Rattle.std.proofs.lemmas.Option.{slice_get_past, slice_get-get_or}
 use Rattle.uda_mem.specs.declared.range.ByteRange.{ByteRange}
 use Rattle.uda_mem.specs.Put.{put, part}
 use Rattle.uda_mem.specs.Ranges.{EMPTY_RANGE, range_in, LiesIn, SameIn, carried}
@@ -15,16 +17,18 @@ use Rattle.uda_mem.proofs.RangeLaws.{Write, ranges_of, puts, carried_puts, part_
 use Rattle.uda_packet.specs.declared.command.Command.{Command}
 use Rattle.uda_packet.specs.declared.guest_command.GuestCommand.{GuestCommand}
 use Rattle.uda_packet.specs.declared.guest_command.GuestOp.{GuestOp}
-use Rattle.uda_packet.specs.declared.guest_command.GuestOp.TheVariants.{Basic}
+use Rattle.uda_packet.specs.declared.guest_command.GuestOp.TheVariants.{Basic, SetUnit, Compare}
+use Rattle.uda_packet.specs.declared.command.Op.{Op}
+use Rattle.uda_packet.specs.declared.command.Op.TheVariants.{Read}
 use Rattle.uda_packet.specs.declared.reply.Reply.{Reply}
 use Rattle.uda_exec.specs.declared.buffer_use.BufferUse.{BufferUse}
-use Rattle.uda_exec.specs.BufferUse.{changed_length, buffer_use, buffer_use_at}
-use Rattle.uda_exec.specs.Commands.{buffer_start}
+use Rattle.uda_exec.specs.BufferUse.{used_length, changed_length, read_length, moved_length, bytes_moved, buffer_use, buffer_use_at}
+use Rattle.uda_exec.specs.Commands.{buffer_start, buffer_length, memory_read_length}
 use Rattle.uda_exec.specs.Disks.{ExecState}
 use Rattle.uda_exec.specs.GuestExecution.{ExecutesAs, ExecutesGuestAt}
 use Rattle.uda_exec.specs.GuestOps.{op_at}
 use Rattle.uda_exec.proofs.Changes.{length-changes}
-use Rattle.uda_exec.proofs.Elsewhere.{changes_as, executes_as_elsewhere}
+use Rattle.uda_exec.proofs.Elsewhere.{changes_as, reads_none, executes_as_elsewhere}
 use Rattle.uda_port.specs.declared.packet.Delivery.{Delivery}
 use Rattle.uda_port.specs.declared.packet.Fetching.{Fetching}
 use Rattle.uda_port.specs.declared.descriptor.Descriptor.{Descriptor}
@@ -44,6 +48,7 @@ use Rattle.uda_port.specs.Ring.{RingState, descriptor_address, descriptor_at, ne
 use Rattle.uda_port.specs.Interrupt.{ring_before, indicator_at, any_flagged, any_owned, memory_with_indicator, IsBelow, word_below, is_ring_transition}
 use Rattle.uda_port.specs.Packet.{HasText, HasPacket, IsPacketAt, DeclaresRoom, HasRoom, packet_put, text_address}
 use Rattle.uda_port.specs.Report.{end_text, next_text}
+use Rattle.uda_port.specs.Ring.{is_owned}
 use Rattle.uda_port.specs.Guest.{attention_set}
 use Rattle.uda_port.specs.Port.{PortState, command_indicator, response_indicator, interrupts_after, next_grant, lacks_credit}
 use Rattle.uda_port.specs.Fetch.{Takes}
@@ -52,10 +57,10 @@ use Rattle.uda_port.specs.Message.{message_in, flags_kept}
 use Rattle.uda_port.specs.Events.{Delivers}
 use Rattle.uda_port.specs.declared.plan.Plan.{Plan}
 use Rattle.uda_port.specs.declared.plan.Plan.TheVariants.{AtRest, NoCommandRing, ToFetch, ToExecute, NoMessage, ToWait, NoResponseRing, ToDeliver}
-use Rattle.uda_port.specs.Plan.{plan_by, plan_of}
+use Rattle.uda_port.specs.Plan.{plan_message, plan_later, plan_found, plan_running, plan_in, plan_of, next_size, awaits_delivery, looks_in, looks_at_commands, looks_at_responses, is_execution}
 use Rattle.uda_port.specs.Plan.{Step, TurnIs, TurnCase, Rests, CommandRingLost, Unreadable, Exceeds, BadConnection, Fetches, Executes, DeliversEnd, Notifies, Waits, ResponseRingLost, NoRoom}
 use Rattle.uda_port.specs.Turn.{Unchanged, ExecutesFor, TurnEffect, TakesPacket, NothingToFetch, NothingToDeliver, ExecutesOne, may_fetch, fetching_of, port_turn_on, port_not_polling, port_with_message}
-use Rattle.uda_port.specs.MemoryUse.{descriptor_ranges, packet_range, indicator_range, returned_range, NONE_WRITTEN, has_text, has_room, written_by_fetch, fetch_use, looked_up, command_use, written_by_delivery, delivery_use, use_by, use_of, fate_at, fate_in, fate_of, CanFail, EffectBy, EffectWithout, written_by_fate, written_of, Agrees, AgreesInDescriptors, IsLocal, HasValidRings}
+use Rattle.uda_port.specs.MemoryUse.{looked_at, descriptor_ranges, writable_of, first_of, written_after, newest_count, packet_range, indicator_range, returned_range, NONE_WRITTEN, has_text, has_room, written_by_fetch, fetch_use, looked_up, command_use, written_by_delivery, delivery_use, use_by, use_of, fate_at, fate_in, fate_of, CanFail, EffectBy, EffectWithout, written_by_fate, written_of, Agrees, AgreesInDescriptors, IsLocal, HasValidRings}
 use Rattle.uda_port.proofs.PlanLaws.{plan_rests, plan_outside, plan_fetches, plan_executes, plan_lost, plan_delivers, IsQuiet, NoneWaits, Waiting, plan_quiet, some_executed, case_of, executed_case, case_at, turns_at}
 use Rattle.uda_port.proofs.PortSteps.{reads_no_ring, reads_no_packet, writes_no_packet}
 use Rattle.uda_port.proofs.RingLaws.{takes_first}
@@ -80,40 +85,56 @@ descriptor_same memory other at same h =
     λ size l h. if nat_le (at + 4) size then Some (record { low = l; high = h }) else None in
     ap (λ (n : ℕ). make n (word_at other at) (word_at other (at + 2))) same ∙ ap₂ (make (length memory)) low high
 
+-- one at which the turn looks
+looked_same : (looks : Bool) (memory other : List ℕ) (r : RingState) → length other ≡ length memory
+    → SameIn memory other (looked_at looks memory r) → looks ≡ true
+    → next_descriptor other r ≡ next_descriptor memory r
+looked_same true memory other r same h looks = descriptor_same memory other (descriptor_address r) same h
+looked_same false memory other r same h looks = absurd (cc)
+
 -- the descriptors that a turn reads
 record SameDescriptors (port : PortState) (memory other : List ℕ) : Type 0 where
   same : length other ≡ length memory
-  command : next_descriptor other port.commands ≡ next_descriptor memory port.commands
-  before_command : next_descriptor other (ring_before port.commands)
-      ≡ next_descriptor memory (ring_before port.commands)
-  response : next_descriptor other port.responses ≡ next_descriptor memory port.responses
-  before_response : next_descriptor other (ring_before port.responses)
-      ≡ next_descriptor memory (ring_before port.responses)
+  command : looks_at_commands port ≡ true → next_descriptor other port.commands ≡ next_descriptor memory port.commands
+  before_command : looks_at_commands port ≡ true
+      → next_descriptor other (ring_before port.commands) ≡ next_descriptor memory (ring_before port.commands)
+  response : looks_at_responses port ≡ true
+      → next_descriptor other port.responses ≡ next_descriptor memory port.responses
+  before_response : looks_at_responses port ≡ true
+      → next_descriptor other (ring_before port.responses) ≡ next_descriptor memory (ring_before port.responses)
 
 same_descriptors : (port : PortState) (memory other : List ℕ) → length other ≡ length memory
     → All (SameIn memory other) (descriptor_ranges port memory) → SameDescriptors port memory other
 same_descriptors port memory other same h =
     let P = SameIn memory other in
-    let a = range_in memory (descriptor_address port.commands) 4 in
-    let b = range_in memory (descriptor_address (ring_before port.commands)) 4 in
-    let c = range_in memory (descriptor_address port.responses) 4 in
-    let d = range_in memory (descriptor_address (ring_before port.responses)) 4 in
+    let commands = looks_at_commands port in
+    let responses = looks_at_responses port in
+    let a = looked_at commands memory port.commands in
+    let b = looked_at commands memory (ring_before port.commands) in
+    let c = looked_at responses memory port.responses in
+    let d = looked_at responses memory (ring_before port.responses) in
     let h1 = All-tail P a (b ∷ c ∷ d ∷ []) h in
     let h2 = All-tail P b (c ∷ d ∷ []) h1 in
     let h3 = All-tail P c (d ∷ []) h2 in
     record {
       same = same;
-      command =
-          descriptor_same memory other (descriptor_address port.commands) same (All-head P a (b ∷ c ∷ d ∷ []) h);
+      command = looked_same commands memory other port.commands same (All-head P a (b ∷ c ∷ d ∷ []) h);
       before_command =
-          descriptor_same memory other (descriptor_address (ring_before port.commands)) same
-          (All-head P b (c ∷ d ∷ []) h1);
-      response =
-          descriptor_same memory other (descriptor_address port.responses) same (All-head P c (d ∷ []) h2);
-      before_response =
-          descriptor_same memory other (descriptor_address (ring_before port.responses)) same
-          (All-head P d [] h3);
+          looked_same commands memory other (ring_before port.commands) same (All-head P b (c ∷ d ∷ []) h1);
+      response = looked_same responses memory other port.responses same (All-head P c (d ∷ []) h2);
+      before_response = looked_same responses memory other (ring_before port.responses) same (All-head P d [] h3);
     }
+
+-- a running port looks where its turn says
+looks : (port : PortState) (test : Bool) → port.phase ≡ Running → test ≡ true → looks_in port.phase test ≡ true
+looks port test runs is = rw (runs, is) refl
+
+awaits : (port : PortState) (memory text : List ℕ) → port.phase ≡ Running → Delivers port memory
+    → next_text port ≡ Some text → looks_at_responses port ≡ true
+awaits port memory text runs reaches next =
+    let size : next_size port ≡ Some (length text) = ap (option_map (λ (t : List ℕ). length t)) next in
+    let waits : awaits_delivery port.exec.pending (next_size port) ≡ true = rw (reaches.nothing_pending, size) refl in
+    looks port (awaits_delivery port.exec.pending (next_size port)) runs waits
 
 indicator_same : (profile : Profile) (indicator : Option ℕ) (memory other : List ℕ) (r : RingState)
     → next_descriptor other r ≡ next_descriptor memory r
@@ -124,16 +145,16 @@ indicator_same (Compatible identity) indicator memory other r here before =
     ap₂ (λ (x y : Option Descriptor). if any_flagged x && any_owned y then indicator else None) here before
 
 command_indicator_same : (port : PortState) (memory other : List ℕ) → SameDescriptors port memory other
-    → command_indicator port other ≡ command_indicator port memory
-command_indicator_same port memory other s =
-    indicator_same port.profile (word_below port.responses.base 4) memory other port.commands s.command
-    s.before_command
+    → looks_at_commands port ≡ true → command_indicator port other ≡ command_indicator port memory
+command_indicator_same port memory other s at =
+    indicator_same port.profile (word_below port.responses.base 4) memory other port.commands (s.command at)
+    (s.before_command at)
 
 response_indicator_same : (port : PortState) (memory other : List ℕ) → SameDescriptors port memory other
-    → response_indicator port other ≡ response_indicator port memory
-response_indicator_same port memory other s =
-    indicator_same port.profile (word_below port.responses.base 2) memory other port.responses s.response
-    s.before_response
+    → looks_at_responses port ≡ true → response_indicator port other ≡ response_indicator port memory
+response_indicator_same port memory other s at =
+    indicator_same port.profile (word_below port.responses.base 2) memory other port.responses (s.response at)
+    (s.before_response at)
 
 -- a packet
 text_there : (memory other : List ℕ) (at n : ℕ) → length other ≡ length memory → HasText memory at n
@@ -372,6 +393,47 @@ used_in memory other u long same = by u.used refl
         part_in memory other u.start (suc n) long
         (subst (λ (m : ℕ). SameIn memory other (range_in memory u.start m)) all same)
 
+-- it reads no more than it uses
+reads_few : (op : Op) → memory_read_length op ≤ buffer_length op
+reads_few (Read bytes address lbn) = zero-le
+reads_few _ = omega arith
+
+reads_used : (o : GuestOp) (op : Op) → read_length o op ≤ used_length o op
+reads_used Basic op = reads_few op
+reads_used SetUnit op = reads_few op
+reads_used Compare op = omega arith
+
+-- and a command that changes its buffer reads none of it
+read_in : (memory other : List ℕ) (u : BufferUse) (g : GuestCommand) → u ≡ buffer_use g → length other ≡ length memory
+    → (nat_eq u.changed 0 ≡ true → SameIn memory other (range_in memory u.start (looked_up u)))
+    → part other u.start (read_length g.op g.command.op) ≡ part memory u.start (read_length g.op g.command.op)
+read_in memory other u g is long reads = by (changed_length g.op g.command.op) refl
+  where
+    by : (n : ℕ) → changed_length g.op g.command.op ≡ n
+        → part other u.start (read_length g.op g.command.op) ≡ part memory u.start (read_length g.op g.command.op)
+    by zero none =
+        let unchanged : u.changed ≡ 0 = ap (λ (u : BufferUse). u.changed) is ∙ none in
+        let all = used_in memory other u long (reads (eq-eqb u.changed 0 unchanged)) in
+        let used : u.used ≡ used_length g.op g.command.op = ap (λ (u : BufferUse). u.used) is in
+        let few = reads_used g.op g.command.op in
+        part_shared memory other u.start u.used u.start (read_length g.op g.command.op) long all (omega arith)
+        (omega (arith, used, few))
+    by (suc n) some =
+        let none : read_length g.op g.command.op ≡ 0 = reads_none g.op g.command.op (omega (arith, some)) in
+        ap (λ (n : ℕ). part other u.start n) none ∙ nothing_in memory other u.start
+        ∙ sym (ap (λ (n : ℕ). part memory u.start n) none)
+
+-- the newest end message of a port is the one that was queued last
+newest_is : (port : PortState) (queued : List Reply) (r : Reply) → port.waiting ≡ queued ++ r ∷ []
+    → newest_count port ≡ bytes_moved r.body
+newest_is port queued r is =
+    let size = length-append queued (r ∷ []) in
+    let last : slice_get (queued ++ r ∷ []) (length (queued ++ r ∷ []) - 1) ≡ Some r =
+    ap (slice_get (queued ++ r ∷ [])) (omega (arith, size)) ∙ slice_get-get_or (queued ++ r ∷ []) (length queued) r
+    (omega (arith, size)) ∙ ap (λ (x : Reply). Some x) (get_or-append_seam queued r [] r) in
+    ap (λ (w : List Reply). option_map_or (λ (r : Reply). bytes_moved r.body) (slice_get w (length w - 1)) 0) is
+    ∙ ap (λ (found : Option Reply). option_map_or (λ (r : Reply). bytes_moved r.body) found 0) last
+
 below_if : (indicator : Option ℕ) (b : Bool) (base : ℕ) → IsBelow indicator base
     → IsBelow (if b then indicator else None) base
 below_if indicator true base h = h
@@ -436,6 +498,11 @@ abbrev delivery_with : PortState → ℕ → Option ℕ → Delivery
 delivery_with port credits indicator =
     record { profile = port.profile; credits = credits; indicator = indicator }
 
+-- only an executed command wrote less than it may
+all_written : (p : Plan) → is_execution p ≡ false → (n : ℕ) (ranges : List ByteRange) → written_after p n ranges ≡ ranges
+all_written ToExecute is n ranges = absurd (cc)
+all_written _ is n ranges = refl
+
 -- one turn: the port before and after it, its memory, and the command at index j
 module _ (old : PortState) (memory : List ℕ) (j : ℕ) (new : PortState) (memory_after : List ℕ)
     (valid : HasValidRings old) where
@@ -449,38 +516,51 @@ module _ (old : PortState) (memory : List ℕ) (j : ℕ) (new : PortState) (memo
   abbrev CaseIn : Turn → List ℕ → List ℕ → Type 0
   CaseIn turn other after = TurnCase (λ k. k ≡ j) turn (there other after)
 
-  -- what a turn wrote is carried to another memory that agrees where it reads, and it is a turn there
-  record Local (uses : MemoryUse) (turn : Turn) : Type 0 where
-    only : memory_after ≡ carried uses.written memory_after memory
-    elsewhere : (other : List ℕ) → SameDescriptors old memory other → SameIn memory other uses.body
-        → CaseIn turn other (carried uses.written memory_after other)
+  abbrev wrote : Plan → List ByteRange
+  wrote p = written_after p (newest_count new) (use_by old memory j p).written
 
-  by_carry : (p : Plan) (turn : Turn) (left : List ℕ → List ℕ) → plan_of old memory ≡ p → memory_after ≡ left memory
+  -- the other memory has the same bytes where a turn of this plan reads
+  abbrev SameBody : Plan → List ℕ → Type 0
+  SameBody p other = (use_by old memory j p).reads_body ≡ true → SameIn memory other (use_by old memory j p).body
+
+  -- what a turn wrote is carried to another memory that agrees where it reads, and it is a turn there
+  record Local (p : Plan) (turn : Turn) : Type 0 where
+    only : memory_after ≡ carried (use_by old memory j p).written memory_after memory
+    elsewhere : (other : List ℕ) → SameDescriptors old memory other → SameBody p other
+        → CaseIn turn other (carried (wrote p) memory_after other)
+
+  -- a plan that executes nothing: all that it may write, it wrote
+  by_carry : (p : Plan) (turn : Turn) (left : List ℕ → List ℕ) → plan_of old memory ≡ p → is_execution p ≡ false
+      → memory_after ≡ left memory
       → ((other : List ℕ) → length other ≡ length memory
       → carried (use_by old memory j p).written memory_after other ≡ left other)
-      → ((other : List ℕ) → SameDescriptors old memory other → SameIn memory other (use_by old memory j p).body
-      → CaseIn turn other (left other)) → Local (use_of old memory j) turn
-  by_carry p turn left plan is carry goes =
-      subst (λ (q : Plan). Local (use_by old memory j q) turn) (sym plan) (record {
+      → ((other : List ℕ) → SameDescriptors old memory other → SameBody p other → CaseIn turn other (left other))
+      → Local (plan_of old memory) turn
+  by_carry p turn left plan other_plan is carry goes =
+      subst (λ (q : Plan). Local q turn) (sym plan) (record {
         only = is ∙ sym (carry memory refl);
-        elsewhere = λ other s body. subst (CaseIn turn other) (sym (carry other s.same)) (goes other s body);
+        elsewhere = λ other s body.
+            subst (CaseIn turn other)
+            (sym (ap (λ (rs : List ByteRange). carried rs memory_after other)
+            (all_written p other_plan (newest_count new) (use_by old memory j p).written) ∙ carry other s.same))
+            (goes other s body);
       })
 
-  by_writes : (p : Plan) (turn : Turn) (ws : List Write) → plan_of old memory ≡ p → memory_after ≡ puts ws memory
-      → ranges_of ws ≡ (use_by old memory j p).written
-      → ((other : List ℕ) → SameDescriptors old memory other → SameIn memory other (use_by old memory j p).body
-      → CaseIn turn other (puts ws other)) → Local (use_of old memory j) turn
-  by_writes p turn ws plan is ranges goes =
-      by_carry p turn (puts ws) plan is
+  by_writes : (p : Plan) (turn : Turn) (ws : List Write) → plan_of old memory ≡ p → is_execution p ≡ false
+      → memory_after ≡ puts ws memory → ranges_of ws ≡ (use_by old memory j p).written
+      → ((other : List ℕ) → SameDescriptors old memory other → SameBody p other → CaseIn turn other (puts ws other))
+      → Local (plan_of old memory) turn
+  by_writes p turn ws plan other_plan is ranges goes =
+      by_carry p turn (puts ws) plan other_plan is
       (λ other same. ap₂ (λ (rs : List ByteRange) (m : List ℕ). carried rs m other) (sym ranges) is
       ∙ carried_puts ws memory other same) goes
 
-  unwritten : (p : Plan) (turn : Turn) → plan_of old memory ≡ p → (use_by old memory j p).written ≡ NONE_WRITTEN
-      → memory_after ≡ memory
-      → ((other : List ℕ) → SameDescriptors old memory other → SameIn memory other (use_by old memory j p).body
-      → CaseIn turn other other) → Local (use_of old memory j) turn
-  unwritten p turn plan none stays goes =
-      by_carry p turn (λ other. other) plan stays
+  unwritten : (p : Plan) (turn : Turn) → plan_of old memory ≡ p → is_execution p ≡ false
+      → (use_by old memory j p).written ≡ NONE_WRITTEN → memory_after ≡ memory
+      → ((other : List ℕ) → SameDescriptors old memory other → SameBody p other → CaseIn turn other other)
+      → Local (plan_of old memory) turn
+  unwritten p turn plan other_plan none stays goes =
+      by_carry p turn (λ other. other) plan other_plan stays
       (λ other same. ap (λ (rs : List ByteRange). carried rs memory_after other) none ∙ carried_none memory_after other)
       goes
 
@@ -488,21 +568,25 @@ module _ (old : PortState) (memory : List ℕ) (j : ℕ) (new : PortState) (memo
       → Unchanged port other new other
   still before other port same = record { state = same.state; memory_stays = refl }
 
-  nothing_there : (other : List ℕ) → SameDescriptors old memory other → NothingToFetch old memory
-      → NothingToFetch old other
-  nothing_there other s nothing = λ looks.
+  nothing_there : (other : List ℕ) → SameDescriptors old memory other → (may_fetch old ≡ true → looks_at_commands old ≡ true)
+      → NothingToFetch old memory → NothingToFetch old other
+  nothing_there other s at nothing = λ looks.
       let f = nothing looks in
-      record { next = f.next; is_next = s.command ∙ f.is_next; not_owned = f.not_owned }
+      record { next = f.next; is_next = s.command (at looks) ∙ f.is_next; not_owned = f.not_owned }
 
-  reaches_there : (other : List ℕ) → SameDescriptors old memory other → Delivers old memory → Delivers old other
-  reaches_there other s reaches = record {
-    nothing_to_fetch = nothing_there other s reaches.nothing_to_fetch;
+  reaches_there : (other : List ℕ) → SameDescriptors old memory other → old.phase ≡ Running → Delivers old memory
+      → Delivers old other
+  reaches_there other s runs reaches = record {
+    nothing_to_fetch = nothing_there other s (looks old (may_fetch old) runs) reaches.nothing_to_fetch;
     nothing_pending = reaches.nothing_pending;
   }
 
   -- a packet that was taken, and what follows from that
-  module _ (packet : Fetched) (ring_after : RingState) (runs : old.phase ≡ Running) (looks : may_fetch old ≡ true)
+  module _ (packet : Fetched) (ring_after : RingState) (runs : old.phase ≡ Running) (may : may_fetch old ≡ true)
       (t : Takes (fetching_of old memory) old.commands memory packet ring_after memory_after) where
+    looks_here : looks_at_commands old ≡ true
+    looks_here = looks old (may_fetch old) runs may
+
     abbrev taken_writes : List Write
     taken_writes = fetch_writes (command_indicator old memory) old.commands t.first
 
@@ -514,9 +598,9 @@ module _ (old : PortState) (memory : List ℕ) (j : ℕ) (new : PortState) (memo
         let fetching : Option ℕ → Fetching = λ i. record { profile = old.profile; indicator = i } in
         subst
         (λ (i : Option ℕ). Takes (fetching i) old.commands other packet ring_after (puts taken_writes other))
-        (sym (command_indicator_same old memory other s)) (record {
+        (sym (command_indicator_same old memory other s looks_here)) (record {
           first = t.first;
-          is_next = s.command ∙ t.is_next;
+          is_next = s.command looks_here ∙ t.is_next;
           owned = t.owned;
           readable = text_there memory other at 48 s.same t.readable;
           is_packet = packet_there memory other at packet s.same t.readable body t.is_packet;
@@ -526,23 +610,24 @@ module _ (old : PortState) (memory : List ℕ) (j : ℕ) (new : PortState) (memo
 
     taken : (turn : Turn) → ((other : List ℕ) → SameDescriptors old memory other
         → Takes (fetching_of old other) old.commands other packet ring_after (puts taken_writes other)
-        → CaseIn turn other (puts taken_writes other)) → Local (use_of old memory j) turn
+        → CaseIn turn other (puts taken_writes other)) → Local (plan_of old memory) turn
     taken turn goes =
-        by_writes (ToFetch t.first) turn taken_writes (plan_fetches old memory t.first runs looks t.is_next t.owned)
+        by_writes (ToFetch t.first) turn taken_writes (plan_fetches old memory t.first runs may t.is_next t.owned) refl
         (t.written ∙ sym (puts_fetch (command_indicator old memory) old.commands t.first memory))
         (fetch_ranges (command_indicator old memory) old.commands t.first
         ∙ sym (ap (written_by_fetch old memory) (text_true memory (text_address old.profile t.first) 48 t.readable)))
-        (λ other s body. goes other s (takes_there other s body))
+        (λ other s body. goes other s (takes_there other s (body refl)))
 
   rejected : (turn : Turn) (packet : Fetched) (before : PortState) → old.phase ≡ Running
       → TakesPacket (port_turn_on old) memory packet before memory_after
       → ((other after : List ℕ) → TakesPacket (port_turn_on old) other packet before after → CaseIn turn other after)
-      → Local (use_of old memory j) turn
+      → Local (plan_of old memory) turn
   rejected turn packet before runs f goes =
       taken packet before.commands runs f.looks f.takes turn (λ other s t. goes other _ (record {
         looks = f.looks;
         takes = t;
-        others = f.others ∙ ap (port_taken (port_turn_on old) before) (sym (command_indicator_same old memory other s));
+        others = f.others ∙ ap (port_taken (port_turn_on old) before)
+            (sym (command_indicator_same old memory other s (looks old (may_fetch old) runs f.looks)));
       }))
 
   -- a message that was delivered, and what follows from that
@@ -559,6 +644,9 @@ module _ (old : PortState) (memory : List ℕ) (j : ℕ) (new : PortState) (memo
     abbrev put_here : List Write
     put_here = put_writes delivery old.responses t.first text
 
+    looks_there : looks_at_responses old ≡ true
+    looks_there = awaits old memory text runs reaches next
+
     above : 4 ≤ place
     above = has_above old.profile memory place (length text) t.room
 
@@ -569,9 +657,9 @@ module _ (old : PortState) (memory : List ℕ) (j : ℕ) (new : PortState) (memo
     puts_there other s body =
         subst
         (λ (i : Option ℕ). Puts (delivery_with old credits i) old.responses other text ring_after
-        (puts put_here other)) (sym (response_indicator_same old memory other s)) (record {
+        (puts put_here other)) (sym (response_indicator_same old memory other s looks_there)) (record {
           first = t.first;
-          is_next = s.response ∙ t.is_next;
+          is_next = s.response looks_there ∙ t.is_next;
           owned = t.owned;
           room = room_there old.profile memory other place (length text) s.same body t.room;
           written = puts_put delivery old.responses t.first text other above;
@@ -580,75 +668,98 @@ module _ (old : PortState) (memory : List ℕ) (j : ℕ) (new : PortState) (memo
 
     put_message : (turn : Turn) → ((other : List ℕ) → SameDescriptors old memory other
         → Puts (delivery_with old credits (response_indicator old other)) old.responses other text ring_after
-        (puts put_here other) → CaseIn turn other (puts put_here other)) → Local (use_of old memory j) turn
+        (puts put_here other) → CaseIn turn other (puts put_here other)) → Local (plan_of old memory) turn
     put_message turn goes =
         by_writes (ToDeliver t.first (length text)) turn put_here
-        (plan_delivers old memory runs reaches text t.first next t.is_next t.owned)
+        (plan_delivers old memory runs reaches text t.first next t.is_next t.owned) refl
         (t.written ∙ sym (puts_put delivery old.responses t.first text memory above))
         (put_ranges delivery old.responses t.first text
         ∙ sym (ap (written_by_delivery old memory (range_at place (length text)))
         (room_true old.profile memory place (length text) t.room)))
-        (λ other s body. goes other s (puts_there other s body))
+        (λ other s body. goes other s (puts_there other s (body refl)))
 
   executed_local : (turn : Turn) → TurnIs did.Executed turn old → NothingToFetch old memory
-      → ExecutesOne j idle_on memory new memory_after → Local (use_of old memory j) turn
+      → ExecutesOne j idle_on memory new memory_after → Local (plan_of old memory) turn
   executed_local turn d nothing x =
       let g = as_guest old.profile j old.exec memory x.end new.exec memory_after valid.strict x.executes in
       let c = g.command in
       let op = op_at old.exec.guest_ops j in
       let start = buffer_start c.op in
       let n = changed_length op c.op in
+      let m = moved_length op c.op x.end in
       let u = buffer_use (record { command = c; op = op }) in
       let is = buffer_is old.exec j c g.taken.stands in
       let changes = changes_as op c old.exec.units new.exec.units memory memory_after x.end g.executes in
       let long : length memory_after ≡ length memory = length-changes memory memory_after start n changes in
       let clip : part memory_after start (min n (length memory - start)) ≡ part memory_after start n =
       ap (λ l. part memory_after start (min n (l - start))) (sym long) ∙ part_clipped memory_after start n in
-      let left : List ℕ → List ℕ = λ other. put other start (part memory_after start n) in
-      by_carry ToExecute turn left
-      (plan_executes old memory d.runs nothing (some_executed idle_on memory j new memory_after x)) changes
-      (λ other same.
-      ap (λ (b : Option BufferUse). carried (command_use memory b).written memory_after other) is
-      ∙ ap (λ (bytes : List ℕ). carried (EMPTY_RANGE ∷ EMPTY_RANGE ∷ EMPTY_RANGE ∷ []) memory_after
-      (put other start bytes)) clip
-      ∙ carried_empty (EMPTY_RANGE ∷ EMPTY_RANGE ∷ []) memory_after (left other)
-      ∙ carried_empty (EMPTY_RANGE ∷ []) memory_after (left other) ∙ carried_empty [] memory_after (left other))
-      (λ other s body.
-      let looked = subst (λ (b : Option BufferUse). SameIn memory other (command_use memory b).body) is body in
-      let shared = used_in memory other u s.same looked in
-      Executes d (nothing_there other s nothing) j refl (record {
-        end = x.end;
-        executes = executes_for old.profile j old.exec other x.end new.exec (left other) valid.strict (record {
-          command = c;
-          taken = g.taken;
-          ops_left = g.ops_left;
-          executes = executes_as_elsewhere op c old.exec.units new.exec.units memory other memory_after x.end s.same
-              shared g.executes;
-          all_attributes_stay = g.all_attributes_stay;
-        });
-        others = x.others;
-      }))
+      let left : List ℕ → List ℕ = λ other. put other start (part memory_after start m) in
+      let newest : newest_count new ≡ bytes_moved x.end.body = newest_is new old.waiting x.end (ap waiting_of x.others) in
+      let few : min (min n (length memory - start)) (newest_count new) ≡ min m (length memory - start) =
+      omega (arith, newest) in
+      let clip' : part memory_after start (min m (length memory - start)) ≡ part memory_after start m =
+      ap (λ l. part memory_after start (min m (l - start))) (sym long) ∙ part_clipped memory_after start m in
+      let empty : (other : List ℕ) → carried (EMPTY_RANGE ∷ EMPTY_RANGE ∷ EMPTY_RANGE ∷ []) memory_after other ≡ other =
+      λ other. carried_empty (EMPTY_RANGE ∷ EMPTY_RANGE ∷ []) memory_after other
+      ∙ carried_empty (EMPTY_RANGE ∷ []) memory_after other ∙ carried_empty [] memory_after other in
+      let carry : (other : List ℕ) → carried (wrote ToExecute) memory_after other ≡ left other = λ other.
+      ap (λ (b : Option BufferUse). carried (written_after ToExecute (newest_count new) (command_use memory b).written)
+      memory_after other) is
+      ∙ empty (put other start (part memory_after start (min (min n (length memory - start)) (newest_count new))))
+      ∙ ap (λ (k : ℕ). put other start (part memory_after start k)) few ∙ ap (put other start) clip' in
+      subst (λ (q : Plan). Local q turn)
+      (sym (plan_executes old memory d.runs nothing (some_executed idle_on memory j new memory_after x))) (record {
+        only = changes ∙ sym (ap (λ (b : Option BufferUse). carried (command_use memory b).written memory_after memory) is
+            ∙ empty (put memory start (part memory_after start (min n (length memory - start))))
+            ∙ ap (put memory start) clip);
+        elsewhere = λ other s body.
+            let reads : ToExecuteReads u other = subst (ExecutedReads other) is body in
+            let shared = read_in memory other u (record { command = c; op = op }) refl s.same reads in
+            subst (CaseIn turn other) (sym (carry other))
+            (Executes d (nothing_there other s (looks old (may_fetch old) d.runs) nothing) j refl (record {
+              end = x.end;
+              executes = executes_for old.profile j old.exec other x.end new.exec (left other) valid.strict (record {
+                command = c;
+                taken = g.taken;
+                ops_left = g.ops_left;
+                executes = executes_as_elsewhere op c old.exec.units new.exec.units memory other memory_after x.end s.same
+                    shared g.executes;
+                all_attributes_stay = g.all_attributes_stay;
+              });
+              others = x.others;
+            }));
+      })
+    where
+      ExecutedReads : List ℕ → Option BufferUse → Type 0
+      ExecutedReads other b = (command_use memory b).reads_body ≡ true → SameIn memory other (command_use memory b).body
+
+      ToExecuteReads : BufferUse → List ℕ → Type 0
+      ToExecuteReads u other = ExecutedReads other (Some u)
+
+      waiting_of : PortState → List Reply
+      waiting_of p = p.waiting
 
   -- ---- a turn
 
-  case_local : (turn : Turn) → CaseIn turn memory memory_after → Local (use_of old memory j) turn
+  case_local : (turn : Turn) → CaseIn turn memory memory_after → Local (plan_of old memory) turn
   case_local turn (Rests rests answer same) =
-      unwritten AtRest turn (plan_rests old memory rests) refl same.memory_stays
+      unwritten AtRest turn (plan_rests old memory rests) refl refl same.memory_stays
       (λ other s body. Rests rests answer (still memory other old same))
   case_local turn (CommandRingLost d line same) =
-      unwritten NoCommandRing turn (plan_outside old memory d.runs line.looks line.no_descriptor) refl same.memory_stays
+      unwritten NoCommandRing turn (plan_outside old memory d.runs line.looks line.no_descriptor) refl refl
+      same.memory_stays
       (λ other s body. CommandRingLost d
-      (record { looks = line.looks; no_descriptor = s.command ∙ line.no_descriptor }) (still memory other _ same))
+      (record { looks = line.looks; no_descriptor = s.command (looks old (may_fetch old) d.runs line.looks) ∙ line.no_descriptor }) (still memory other _ same))
   case_local turn (Unreadable d line same) =
       let l = line.no_packet in
       let at = text_address old.profile l.next in
-      unwritten (ToFetch l.next) turn (plan_fetches old memory l.next d.runs line.looks l.is_next l.owned)
+      unwritten (ToFetch l.next) turn (plan_fetches old memory l.next d.runs line.looks l.is_next l.owned) refl
       (ap (written_by_fetch old memory) (not_text memory at 48 l.unreadable)) same.memory_stays
       (λ other s body. Unreadable d (record {
         looks = line.looks;
         no_packet = record {
           next = l.next;
-          is_next = s.command ∙ l.is_next;
+          is_next = s.command (looks old (may_fetch old) d.runs line.looks) ∙ l.is_next;
           owned = l.owned;
           unreadable = λ has. l.unreadable (text_there other memory at 48 (sym s.same) has);
         };
@@ -678,7 +789,7 @@ module _ (old : PortState) (memory : List ℕ) (j : ℕ) (new : PortState) (memo
         credit = line.credit;
         sequential = line.sequential;
         others = line.others
-            ∙ ap (port_fetched (port_turn_on old) new line.packet) (sym (command_indicator_same old memory other s));
+            ∙ ap (port_fetched (port_turn_on old) new line.packet) (sym (command_indicator_same old memory other s (looks old (may_fetch old) d.runs line.looks)));
       }))
   case_local turn (Executes d nothing k is line) =
       executed_local turn d nothing
@@ -686,67 +797,122 @@ module _ (old : PortState) (memory : List ℕ) (j : ℕ) (new : PortState) (memo
   case_local turn (DeliversEnd d reaches line) =
       put_message (next_grant old.deliveries) (end_text old line.end) new.responses d.runs reaches
       (first_text old line.end line.none_due (ap (λ (w : List Reply). slice_get w 0) line.first)) line.puts turn
-      (λ other s t. DeliversEnd d (reaches_there other s reaches) (record {
+      (λ other s t. DeliversEnd d (reaches_there other s d.runs reaches) (record {
         end = line.end;
         none_due = line.none_due;
         first = line.first;
         puts = t;
         legible = line.legible;
-        others = line.others ∙ ap (port_delivered idle_on new) (sym (response_indicator_same old memory other s));
+        others = line.others ∙ ap (port_delivered idle_on new)
+            (sym (response_indicator_same old memory other s (awaits old memory (end_text old line.end) d.runs reaches
+            (first_text old line.end line.none_due (ap (λ (w : List Reply). slice_get w 0) line.first)))));
       }))
   case_local turn (Notifies d reaches line) =
       put_message 0 line.text new.responses d.runs reaches (attention_first old line.text line.message) line.puts turn
-      (λ other s t. Notifies d (reaches_there other s reaches) (record {
+      (λ other s t. Notifies d (reaches_there other s d.runs reaches) (record {
         drive = line.drive;
         text = line.text;
         due = line.due;
         message = line.message;
         puts = t;
-        others = line.others ∙ ap (port_notified idle_on new line.drive) (sym (response_indicator_same old memory other s));
+        others = line.others ∙ ap (port_notified idle_on new line.drive)
+            (sym (response_indicator_same old memory other s (awaits old memory line.text d.runs reaches
+            (attention_first old line.text line.message))));
       }))
   case_local turn (Waits d reaches none same) = by (plan_quiet old memory d.runs reaches none)
     where
       owns : (other : List ℕ) → SameDescriptors old memory other → NothingToDeliver old other
       owns other s = λ text next.
           let f = none text next in
-          record { next = f.next; is_next = s.response ∙ f.is_next; not_owned = f.not_owned }
+          let at = awaits old memory text d.runs reaches next in
+          record { next = f.next; is_next = s.response at ∙ f.is_next; not_owned = f.not_owned }
 
       waits : (other : List ℕ) → SameDescriptors old memory other → CaseIn turn other other
-      waits other s = Waits d (reaches_there other s reaches) (owns other s) (still memory other _ same)
+      waits other s = Waits d (reaches_there other s d.runs reaches) (owns other s) (still memory other _ same)
 
-      by : IsQuiet old memory d.runs reaches → Local (use_of old memory j) turn
-      by (NoneWaits plan) = unwritten NoMessage turn plan refl same.memory_stays (λ other s body. waits other s)
-      by (Waiting plan) = unwritten ToWait turn plan refl same.memory_stays (λ other s body. waits other s)
+      by : IsQuiet old memory d.runs reaches → Local (plan_of old memory) turn
+      by (NoneWaits plan) = unwritten NoMessage turn plan refl refl same.memory_stays (λ other s body. waits other s)
+      by (Waiting plan) = unwritten ToWait turn plan refl refl same.memory_stays (λ other s body. waits other s)
   case_local turn (ResponseRingLost d reaches line same) =
-      unwritten NoResponseRing turn (plan_lost old memory d.runs reaches line.text line.is_next line.no_descriptor) refl
-      same.memory_stays (λ other s body. ResponseRingLost d (reaches_there other s reaches)
-      (record { text = line.text; is_next = line.is_next; no_descriptor = s.response ∙ line.no_descriptor })
+      unwritten NoResponseRing turn (plan_lost old memory d.runs reaches line.text line.is_next line.no_descriptor) refl refl
+      same.memory_stays (λ other s body. ResponseRingLost d (reaches_there other s d.runs reaches)
+      (record { text = line.text; is_next = line.is_next; no_descriptor = s.response (awaits old memory line.text d.runs reaches line.is_next) ∙ line.no_descriptor })
       (still memory other _ same))
   case_local turn (NoRoom d reaches line same) =
       let l = line.no_room in
       let n = length line.text in
       let at = text_address old.profile l.next in
       unwritten (ToDeliver l.next n) turn
-      (plan_delivers old memory d.runs reaches line.text l.next line.is_next l.is_next l.owned)
+      (plan_delivers old memory d.runs reaches line.text l.next line.is_next l.is_next l.owned) refl
       (ap (written_by_delivery old memory (range_at at n)) (not_room old.profile memory at n l.no_room))
-      same.memory_stays (λ other s body. NoRoom d (reaches_there other s reaches) (record {
+      same.memory_stays (λ other s body. NoRoom d (reaches_there other s d.runs reaches) (record {
         text = line.text;
         is_next = line.is_next;
         no_room = record {
           next = l.next;
-          is_next = s.response ∙ l.is_next;
+          is_next = s.response (awaits old memory line.text d.runs reaches line.is_next) ∙ l.is_next;
           owned = l.owned;
           no_room = λ has. l.no_room
-              (room_there old.profile other memory at n (sym s.same) (same_back memory other at n s.same body) has);
+              (room_there old.profile other memory at n (sym s.same) (same_back memory other at n s.same (body refl)) has);
         };
       }) (still memory other _ same))
 
 -- ---- the plan elsewhere
 
+-- a plan to fetch looks at the command ring, and one to deliver at the response ring
+abbrev Looks : PortState → Plan → Type 0
+Looks port (ToFetch d) = looks_at_commands port ≡ true
+Looks port (ToDeliver d n) = looks_at_responses port ≡ true
+Looks port _ = Unit {0}
+
+module _ (port : PortState) where
+  looks_later : (cs : List Command) (size : Option ℕ) (response : Option Descriptor)
+      → (awaits_delivery cs size ≡ true → looks_at_responses port ≡ true) → Looks port (plan_later cs size response)
+  looks_later (c ∷ cs) size response at = tt
+  looks_later [] None response at = tt
+  looks_later [] (Some n) None at = tt
+  looks_later [] (Some n) (Some d) at = cond_both (is_owned d) _ _ (Looks port) (λ owned. at refl) (λ _. tt)
+
+  looks_by : (phase : Phase) (may : Bool) (command : Option Descriptor) (cs : List Command) (size : Option ℕ)
+      (response : Option Descriptor) → (looks_in phase may ≡ true → looks_at_commands port ≡ true)
+      → (looks_in phase (awaits_delivery cs size) ≡ true → looks_at_responses port ≡ true)
+      → Looks port (plan_in phase (plan_running may command (plan_later cs size response)))
+  looks_by Running true None cs size response commands responses = tt
+  looks_by Running true (Some d) cs size response commands responses =
+      cond_both (is_owned d) _ _ (Looks port) (λ owned. commands refl)
+      (λ _. looks_later cs size response responses)
+  looks_by Running false command cs size response commands responses = looks_later cs size response responses
+  looks_by _ may command cs size response commands responses = tt
+
+  looks_of : (memory : List ℕ) → Looks port (plan_of port memory)
+  looks_of memory =
+      looks_by port.phase (may_fetch port) (next_descriptor memory port.commands) port.exec.pending (next_size port)
+      (next_descriptor memory port.responses) (λ is. is) (λ is. is)
+
 -- it is the same in another memory that agrees in the descriptors
+later_same : (pending : List Command) (size : Option ℕ) (one other : Option Descriptor)
+    → (awaits_delivery pending size ≡ true → other ≡ one)
+    → plan_later pending size other ≡ plan_later pending size one
+later_same (c ∷ cs) size one other same = refl
+later_same [] None one other same = refl
+later_same [] (Some n) one other same = ap (plan_message n) (same refl)
+
+plan_same : (phase : Phase) (may : Bool) (pending : List Command) (size : Option ℕ)
+    (command command_there response response_there : Option Descriptor)
+    → (looks_in phase may ≡ true → command_there ≡ command)
+    → (looks_in phase (awaits_delivery pending size) ≡ true → response_there ≡ response)
+    → plan_in phase (plan_running may command_there (plan_later pending size response_there))
+    ≡ plan_in phase (plan_running may command (plan_later pending size response))
+plan_same Running true pending size command command_there response response_there commands responses =
+    ap₂ plan_found (commands refl) (later_same pending size response response_there responses)
+plan_same Running false pending size command command_there response response_there commands responses =
+    later_same pending size response response_there responses
+plan_same _ may pending size command command_there response response_there commands responses = refl
+
 plan_there : (port : PortState) (memory other : List ℕ) → SameDescriptors port memory other
     → plan_of port other ≡ plan_of port memory
-plan_there port memory other s = ap₂ (plan_by port) s.command s.response
+plan_there port memory other s =
+    plan_same port.phase (may_fetch port) port.exec.pending (next_size port) _ _ _ _ s.command s.response
 
 fate_there : (missing : Missing) (port : PortState) (memory other : List ℕ)
     → SameDescriptors port memory other → fate_of missing port other ≡ fate_of missing port memory
@@ -760,6 +926,16 @@ module _ (port : PortState) (memory other : List ℕ) (j : ℕ) (s : SameDescrip
   command_there : (u : Option BufferUse) → (command_use other u).body ≡ (command_use memory u).body
   command_there None = refl
   command_there (Some u) = range_there u.start (looked_up u)
+
+  command_read : (u : Option BufferUse) → (command_use other u).reads_body ≡ (command_use memory u).reads_body
+  command_read None = refl
+  command_read (Some u) = refl
+
+  reads_by : (p : Plan) → (use_by port other j p).reads_body ≡ (use_by port memory j p).reads_body
+  reads_by (ToFetch d) = refl
+  reads_by ToExecute = command_read (buffer_use_at port.exec j)
+  reads_by (ToDeliver d n) = refl
+  reads_by _ = refl
 
   body_by : (p : Plan) → (use_by port other j p).body ≡ (use_by port memory j p).body
   body_by (ToFetch d) = range_there (text_address port.profile d - 4) 52
@@ -779,35 +955,37 @@ module _ (port : PortState) (memory other : List ℕ) (j : ℕ) (s : SameDescrip
       ap₂ (λ (b : Bool) (w : ℕ). b && nat_le 48 w) (readable_there at 48) word
   room_same (Compatible identity) at n h = readable_there at n
 
-  put_there : (text : ByteRange) (room : Bool)
+  put_there : (text : ByteRange) (room : Bool) → looks_at_responses port ≡ true
       → written_by_delivery port other text room ≡ written_by_delivery port memory text room
-  put_there text false = refl
-  put_there text true =
+  put_there text false at = refl
+  put_there text true at =
       ap (λ (indicator : Option ℕ). text ∷ record { at = text.at - 4; bytes = 4 } ∷ indicator_range indicator
-      ∷ returned_range port.responses ∷ []) (response_indicator_same port memory other s)
+      ∷ returned_range port.responses ∷ []) (response_indicator_same port memory other s at)
 
-  taken_there : (readable : Bool) → written_by_fetch port other readable ≡ written_by_fetch port memory readable
-  taken_there false = refl
-  taken_there true =
+  taken_there : (readable : Bool) → looks_at_commands port ≡ true
+      → written_by_fetch port other readable ≡ written_by_fetch port memory readable
+  taken_there false at = refl
+  taken_there true at =
       ap (λ (indicator : Option ℕ). indicator_range indicator ∷ returned_range port.commands ∷ EMPTY_RANGE
-      ∷ EMPTY_RANGE ∷ []) (command_indicator_same port memory other s)
+      ∷ EMPTY_RANGE ∷ []) (command_indicator_same port memory other s at)
 
   command_written : (u : Option BufferUse) → (command_use other u).written ≡ (command_use memory u).written
   command_written None = refl
   command_written (Some u) =
       ap (λ (r : ByteRange). r ∷ EMPTY_RANGE ∷ EMPTY_RANGE ∷ EMPTY_RANGE ∷ []) (range_there u.start u.changed)
 
-  written_by_plan : (p : Plan) → SameIn memory other (use_by port memory j p).body
+  written_by_plan : (p : Plan) → Looks port p
+      → ((use_by port memory j p).reads_body ≡ true → SameIn memory other (use_by port memory j p).body)
       → (use_by port other j p).written ≡ (use_by port memory j p).written
-  written_by_plan (ToFetch d) h =
-      let at = text_address port.profile d in
-      ap (written_by_fetch port other) (readable_there at 48) ∙ taken_there (has_text memory at 48)
-  written_by_plan ToExecute h = command_written (buffer_use_at port.exec j)
-  written_by_plan (ToDeliver d n) h =
-      let at = text_address port.profile d in
-      ap (written_by_delivery port other (range_at at n)) (room_same port.profile at n h)
-      ∙ put_there (range_at at n) (has_room port.profile memory at n)
-  written_by_plan _ h = refl
+  written_by_plan (ToFetch d) at h =
+      let place = text_address port.profile d in
+      ap (written_by_fetch port other) (readable_there place 48) ∙ taken_there (has_text memory place 48) at
+  written_by_plan ToExecute at h = command_written (buffer_use_at port.exec j)
+  written_by_plan (ToDeliver d n) at h =
+      let place = text_address port.profile d in
+      ap (written_by_delivery port other (range_at place n)) (room_same port.profile place n (h refl))
+      ∙ put_there (range_at place n) (has_room port.profile memory place n) at
+  written_by_plan _ at h = refl
 
 pub body_there : (port : PortState) (memory other : List ℕ) (j : ℕ) → AgreesInDescriptors port memory other
     → (use_of port other j).body ≡ (use_of port memory j).body
@@ -816,15 +994,32 @@ body_there port memory other j agrees =
     ap (λ (p : Plan). (use_by port other j p).body) (plan_there port memory other s)
     ∙ body_by port memory other j s (plan_of port memory)
 
-pub written_there : (missing : Missing) (j : ℕ) (port : PortState) (memory other : List ℕ)
-    → Agrees port j memory other → written_of missing port memory j ≡ written_of missing port other j
-written_there missing j port memory other agrees =
+pub reads_there : (port : PortState) (memory other : List ℕ) (j : ℕ) → AgreesInDescriptors port memory other
+    → (use_of port other j).reads_body ≡ (use_of port memory j).reads_body
+reads_there port memory other j agrees =
     let s = same_descriptors port memory other agrees.same_length agrees.same_descriptors in
-    let written = ap (λ (p : Plan). (use_by port other j p).written) (plan_there port memory other s)
-    ∙ written_by_plan port memory other j s (plan_of port memory) agrees.same_body in
-    sym (ap₂ written_by_fate (fate_there missing port memory other s) written)
+    ap (λ (p : Plan). (use_by port other j p).reads_body) (plan_there port memory other s)
+    ∙ reads_by port memory other j s (plan_of port memory)
+
+pub written_there : (missing : Missing) (j n : ℕ) (port : PortState) (memory other : List ℕ)
+    → Agrees port j memory other → written_of missing (port, memory) j n ≡ written_of missing (port, other) j n
+written_there missing j n port memory other agrees =
+    let s = same_descriptors port memory other agrees.same_length agrees.same_descriptors in
+    let plan = plan_there port memory other s in
+    let written = ap (λ (p : Plan). (use_by port other j p).written) plan
+    ∙ written_by_plan port memory other j s (plan_of port memory) (looks_of port memory) agrees.same_body in
+    sym (ap₂ (λ (p : Plan) (rs : List ByteRange). written_after p n rs) plan
+    (ap₂ written_by_fate (fate_there missing port memory other s) written))
 
 -- ---- the law
+
+none_after : (p : Plan) (n : ℕ) → written_after p n NONE_WRITTEN ≡ NONE_WRITTEN
+none_after ToExecute n =
+    let none : min 0 n ≡ 0 = omega arith in
+    ap (λ (b : ℕ). record { at = 0; bytes = b } ∷ EMPTY_RANGE ∷ EMPTY_RANGE ∷ EMPTY_RANGE ∷ []) none
+none_after (ToFetch d) n = refl
+none_after (ToDeliver d m) n = refl
+none_after _ n = refl
 
 module _ (missing : Missing) (j : ℕ) (old : PortState) (memory : List ℕ) (turn : Turn) (new : PortState)
     (memory_after : List ℕ) where
@@ -835,37 +1030,49 @@ module _ (missing : Missing) (j : ℕ) (old : PortState) (memory : List ℕ) (tu
       subst (λ (f : Fate). EffectBy f j (old, other) turn (new, after))
       (sym (fate_there missing old memory other s ∙ is)) effect
 
+  -- what the turn wrote
+  abbrev wrote_by : Fate → List ByteRange
+  wrote_by fate =
+      written_after (plan_of old memory) (newest_count new) (written_by_fate fate (use_of old memory j).written)
+
   -- a turn that leaves memory unchanged
-  unchanged : (fate : Fate) → fate_of missing old memory ≡ fate → memory_after ≡ memory
-      → ((other : List ℕ) → EffectBy fate j (old, other) turn (new, other))
-      → IsLocal missing j (old, memory) (record { turn = turn; written = NONE_WRITTEN }) (new, memory_after)
-  unchanged fate is stays effect = record {
-    only = stays ∙ sym (carried_none memory_after memory);
-    elsewhere = λ other agrees.
-        subst (λ (after : List ℕ). EffectWithout missing j (old, other) turn (new, after))
-        (sym (carried_none memory_after other)) (effect_there fate other other is agrees (effect other));
-  }
+  unchanged : (fate : Fate) → fate_of missing old memory ≡ fate → (written : List ByteRange)
+      → written_by_fate fate (use_of old memory j).written ≡ NONE_WRITTEN → wrote_by fate ≡ written
+      → memory_after ≡ memory → ((other : List ℕ) → EffectBy fate j (old, other) turn (new, other))
+      → IsLocal missing j (old, memory) (record { turn = turn; written = written }) (new, memory_after)
+  unchanged fate is written none wrote stays effect =
+      let same : written ≡ NONE_WRITTEN =
+      sym wrote ∙ ap (written_after (plan_of old memory) (newest_count new)) none
+      ∙ none_after (plan_of old memory) (newest_count new) in
+      record {
+        only = stays ∙ sym (ap (λ (f : Fate). carried (written_by_fate f (use_of old memory j).written) memory_after memory) is
+            ∙ ap (λ (rs : List ByteRange). carried rs memory_after memory) none ∙ carried_none memory_after memory);
+        elsewhere = λ other agrees.
+            subst (λ (after : List ℕ). EffectWithout missing j (old, other) turn (new, after))
+            (sym (ap (λ (rs : List ByteRange). carried rs memory_after other) same ∙ carried_none memory_after other))
+            (effect_there fate other other is agrees (effect other));
+      }
 
   pub is_local : (fate : Fate) → HasValidRings old → fate_of missing old memory ≡ fate
       → EffectBy fate j (old, memory) turn (new, memory_after)
-      → IsLocal missing j (old, memory)
-      (record { turn = turn; written = written_by_fate fate (use_of old memory j).written }) (new, memory_after)
+      → IsLocal missing j (old, memory) (record { turn = turn; written = wrote_by fate }) (new, memory_after)
   is_local Usual valid is effect =
       let local = case_local old memory j new memory_after valid turn
       (case_at j (old, memory) turn (new, memory_after) effect) in
       record {
-        only = local.only;
+        only = local.only
+            ∙ sym (ap (λ (f : Fate). carried (written_by_fate f (use_of old memory j).written) memory_after memory) is);
         elsewhere = λ other agrees.
             let s = same_descriptors old memory other agrees.same_length agrees.same_descriptors in
             effect_there Usual other _ is agrees (turns_at j (old, other) turn (new, _)
             (local.elsewhere other s agrees.same_body));
       }
   is_local (FailsInFetch cause) valid is effect =
-      unchanged (FailsInFetch cause) is effect.1 (λ other. (effect.0, refl))
+      unchanged (FailsInFetch cause) is _ refl refl effect.1 (λ other. (effect.0, refl))
   is_local (FailsLater cause) valid is effect =
-      unchanged (FailsLater cause) is effect.1 (λ other. (effect.0, refl))
+      unchanged (FailsLater cause) is _ refl refl effect.1 (λ other. (effect.0, refl))
   is_local WithoutBuffer valid is effect =
-      unchanged WithoutBuffer is effect.1 (λ other. (effect.0, refl))
+      unchanged WithoutBuffer is _ refl refl effect.1 (λ other. (effect.0, refl))
 
 -- a port that doesn't poll executes a pending command
 pub executes_pending : (old : PortState) (memory : List ℕ) (new : PortState) (memory_after : List ℕ) → 0 < length old.exec.pending
@@ -918,7 +1125,7 @@ delivery_lies port memory text indicator short room below within size told retur
 pub delivery_none : (port : PortState) (memory : List ℕ) (text body : ByteRange)
     → body ≡ packet_range memory text.at text.bytes
     → (HasRoom port.profile memory text.at text.bytes → ⊥)
-    → record { body = body; written = NONE_WRITTEN } ≡ delivery_use port memory text
+    → record { body = body; reads_body = true; written = NONE_WRITTEN } ≡ delivery_use port memory text
 delivery_none port memory text body is never =
     rw (is, not_room port.profile memory text.at text.bytes never) refl
 
@@ -928,6 +1135,7 @@ pub delivery_is : (port : PortState) (memory : List ℕ) (text body : ByteRange)
     → HasRoom port.profile memory text.at text.bytes
     → record {
       body = body;
+      reads_body = true;
       written = range_at text.at size ∷ range_at (text.at - 4) 4 ∷ told ∷ returned ∷ [];
     } ≡ delivery_use port memory text
 delivery_is port memory text body size told returned is_size is_body is_told is_returned room =
@@ -937,11 +1145,11 @@ pub fetch_is : (port : PortState) (memory : List ℕ) (d : Descriptor) (at : ℕ
     (readable : Bool) (written : List ByteRange) → at ≡ text_address port.profile d
     → body ≡ packet_range memory at 48 → written ≡ written_by_fetch port memory readable
     → (readable ≡ true → HasText memory at 48) → (HasText memory at 48 → readable ≡ true)
-    → record { body = body; written = written }
+    → record { body = body; reads_body = true; written = written }
     ≡ fetch_use port memory (text_address port.profile d)
 fetch_is port memory d at body readable written is_at is_body is_written has is =
     let make : ByteRange → List ByteRange → MemoryUse =
-    λ b w. record { body = b; written = w } in
+    λ b w. record { body = b; reads_body = true; written = w } in
     let text = text_iff memory at 48 readable has is in
     ap₂ make is_body (is_written ∙ ap (written_by_fetch port memory) text) ∙ ap (fetch_use port memory) is_at
 
@@ -980,6 +1188,15 @@ pub fate_lies : (memory : List ℕ) (fate : Fate) (written : List ByteRange) →
     → All (LiesIn memory) (written_by_fate fate written)
 fate_lies memory Usual written lies = lies
 fate_lies memory _ written lies = none_lies memory
+
+pub after_lies : (memory : List ℕ) (p : Plan) (n : ℕ) (ranges : List ByteRange) → All (LiesIn memory) ranges
+    → All (LiesIn memory) (written_after p n ranges)
+after_lies memory ToExecute n [] lies = lies
+after_lies memory ToExecute n (r ∷ rest) lies =
+    let P = LiesIn memory in
+    let first = All-head P r rest lies in
+    All-cons P (first_of r n) rest (omega (arith, first)) (All-tail P r rest lies)
+after_lies memory _ n ranges lies = lies
 
 if_can : (profile : Profile) (b : Bool) (x y : Fate) → CanFail profile Running x → CanFail profile Running y
     → CanFail profile Running (if b then x else y)

@@ -1,13 +1,14 @@
 -- What a turn reads and writes of host memory. A caller with memory through map registers copies only that.
 -- UDA50 Programmer's Documentation Kit: command ring polling, message envelopes, UNIBUS addresses.
 use Rattle.std.specs.Prelude.{◌≡◌, ◌≤◌, ◌<◌, ℕ, ◌+◌, ◌-◌, ◌%◌, min, max, Bool, true, false, ◌&&◌, nat_eq, nat_le, List, [], ◌∷◌, length}
-use Rattle.std.specs.Prelude.{Option, Some, None, if◌then◌else◌, All, ⊤}
+use Rattle.std.specs.Prelude.{Option, Some, None, if◌then◌else◌, All, ⊤, slice_get}
+use Rattle.std.specs.Option.{option_map_or}
 use Rattle.uda_mem.specs.declared.range.ByteRange.{ByteRange}
 use Rattle.uda_mem.specs.Ranges.{EMPTY_RANGE, range_in, SameIn, carried}
 use Rattle.uda_mem.specs.Words.{word_at}
 use Rattle.uda_packet.specs.declared.command.Command.{Command}
 use Rattle.uda_exec.specs.declared.buffer_use.BufferUse.{BufferUse}
-use Rattle.uda_exec.specs.BufferUse.{buffer_use_at}
+use Rattle.uda_exec.specs.BufferUse.{buffer_use_at, bytes_moved}
 use Rattle.uda_exec.specs.Order.{IsEligible}
 use Rattle.uda_port.specs.declared.memory_use.MemoryUse.{MemoryUse}
 use Rattle.uda_port.specs.declared.memory_use.Missing.{Missing}
@@ -28,20 +29,30 @@ use Rattle.uda_port.specs.Interrupt.{ring_before}
 use Rattle.uda_port.specs.Packet.{text_address}
 use Rattle.uda_port.specs.declared.plan.Plan.{Plan}
 use Rattle.uda_port.specs.declared.plan.Plan.TheVariants.{ToFetch, ToExecute, ToWait, NoResponseRing, ToDeliver}
-use Rattle.uda_port.specs.Plan.{plan_of}
+use Rattle.uda_port.specs.Plan.{plan_of, looks_at_commands, looks_at_responses}
 use Rattle.uda_port.specs.Port.{PortState, command_indicator, response_indicator}
 use Rattle.uda_port.specs.Startup.{failed_port}
 use Rattle.uda_port.specs.Turn.{TurnEffect, ExecutesOne, may_fetch, port_turn_on, port_not_polling}
 
 -- ---- ranges
 
--- the next descriptor of each ring, and the one before it
+-- the next descriptor of a ring, if the turn looks at it
+abbrev pub looked_at : Bool → List ℕ → RingState → ByteRange
+looked_at looks memory r = if looks then range_in memory (descriptor_address r) 4 else EMPTY_RANGE
+
+abbrev pub command_range : PortState → List ℕ → ByteRange
+command_range port memory = looked_at (looks_at_commands port) memory port.commands
+
+abbrev pub response_range : PortState → List ℕ → ByteRange
+response_range port memory = looked_at (looks_at_responses port) memory port.responses
+
+-- the next descriptor of each ring that the turn looks at, and the one before it
 abbrev pub descriptor_ranges : PortState → List ℕ → List ByteRange
 descriptor_ranges port memory =
-    range_in memory (descriptor_address port.commands) 4
-    ∷ range_in memory (descriptor_address (ring_before port.commands)) 4
-    ∷ range_in memory (descriptor_address port.responses) 4
-    ∷ range_in memory (descriptor_address (ring_before port.responses)) 4 ∷ []
+    command_range port memory
+    ∷ looked_at (looks_at_commands port) memory (ring_before port.commands)
+    ∷ response_range port memory
+    ∷ looked_at (looks_at_responses port) memory (ring_before port.responses) ∷ []
 
 -- a packet with a text of n bytes at an address: its text, and the four bytes below it
 abbrev pub packet_range : List ℕ → ℕ → ℕ → ByteRange
@@ -63,7 +74,7 @@ NONE_WRITTEN = EMPTY_RANGE ∷ EMPTY_RANGE ∷ EMPTY_RANGE ∷ EMPTY_RANGE ∷ [
 
 -- nothing but the descriptors
 abbrev pub NO_USE : MemoryUse
-NO_USE = record { body = EMPTY_RANGE; written = NONE_WRITTEN }
+NO_USE = record { body = EMPTY_RANGE; reads_body = false; written = NONE_WRITTEN }
 
 -- whether a packet with a text of n bytes is usable at an address
 abbrev pub has_text : List ℕ → ℕ → ℕ → Bool
@@ -87,6 +98,7 @@ written_by_fetch port memory true =
 abbrev pub fetch_use : PortState → List ℕ → ℕ → MemoryUse
 fetch_use port memory at = record {
   body = packet_range memory at 48;
+  reads_body = true;
   written = written_by_fetch port memory (has_text memory at 48);
 }
 
@@ -95,11 +107,12 @@ fetch_use port memory at = record {
 abbrev pub looked_up : BufferUse → ℕ
 looked_up u = max u.used (min u.start 1)
 
--- a command uses its buffer
+-- A command uses its buffer. One that changes it doesn't read it.
 abbrev pub command_use : List ℕ → Option BufferUse → MemoryUse
 command_use memory None = NO_USE
 command_use memory (Some u) = record {
   body = range_in memory u.start (looked_up u);
+  reads_body = nat_eq u.changed 0;
   written = range_in memory u.start u.changed ∷ EMPTY_RANGE ∷ EMPTY_RANGE ∷ EMPTY_RANGE ∷ [];
 }
 
@@ -114,6 +127,7 @@ written_by_delivery port memory text true =
 abbrev pub delivery_use : PortState → List ℕ → ByteRange → MemoryUse
 delivery_use port memory text = record {
   body = packet_range memory text.at text.bytes;
+  reads_body = true;
   written = written_by_delivery port memory text (has_room port.profile memory text.at text.bytes);
 }
 
@@ -196,9 +210,27 @@ abbrev pub written_by_fate : Fate → List ByteRange → List ByteRange
 written_by_fate Usual ranges = ranges
 written_by_fate _ ranges = NONE_WRITTEN
 
--- what the turn writes, in this order
-abbrev pub written_of : Missing → PortState → List ℕ → ℕ → List ByteRange
-written_of missing port memory j = written_by_fate (fate_of missing port memory) (use_of port memory j).written
+-- what the turn may write, in this order
+abbrev pub writable_of : Missing → PortState → List ℕ → ℕ → List ByteRange
+writable_of missing port memory j = written_by_fate (fate_of missing port memory) (use_of port memory j).written
+
+-- the first n bytes of a range
+abbrev pub first_of : ByteRange → ℕ → ByteRange
+first_of r n = record { at = r.at; bytes = min r.bytes n }
+
+-- what a turn of this plan wrote of these ranges: an executed command the n bytes that its end message counts
+abbrev pub written_after : Plan → ℕ → List ByteRange → List ByteRange
+written_after ToExecute n (buffer ∷ rest) = first_of buffer n ∷ rest
+written_after _ n ranges = ranges
+
+-- the byte count of the newest end message of a port
+abbrev pub newest_count : PortState → ℕ
+newest_count port = option_map_or (λ r. bytes_moved r.body) (slice_get port.waiting (length port.waiting - 1)) 0
+
+-- what a turn wrote, in this order, if its end message counts n bytes
+abbrev pub written_of : Missing → PortState × List ℕ → ℕ → ℕ → List ByteRange
+written_of missing before j n =
+    written_after (plan_of before.0 before.1) n (writable_of missing before.0 before.1 j)
 
 -- ---- the law
 
@@ -207,17 +239,17 @@ pub record AgreesInDescriptors (port : PortState) (memory other : List ℕ) : Ty
   pub same_length : length other ≡ length memory
   pub same_descriptors : All (SameIn memory other) (descriptor_ranges port memory)
 
--- a memory of the same length that has the same bytes where the turn reads
+-- a memory of the same length that has the same bytes where the turn reads: not in a Read's buffer
 pub record Agrees (port : PortState) (j : ℕ) (memory other : List ℕ) : Type 0 where
   pub same_length : length other ≡ length memory
   pub same_descriptors : All (SameIn memory other) (descriptor_ranges port memory)
-  pub same_body : SameIn memory other (use_of port memory j).body
+  pub same_body : (use_of port memory j).reads_body ≡ true → SameIn memory other (use_of port memory j).body
 
--- A turn changed memory only in the ranges that it wrote. In any other memory that agrees where the turn reads,
--- it has the same effect, and leaves there what is carried.
+-- A turn changed memory only in the ranges that it may write. In any other memory that agrees where the turn reads, it
+-- has the same effect, and leaves there what is carried of the ranges that it wrote.
 pub record IsLocal (missing : Missing) (j : ℕ) (before : PortState × List ℕ) (taken : TurnTaken)
     (after : PortState × List ℕ) : Type 0 where
-  pub only : after.1 ≡ carried taken.written after.1 before.1
+  pub only : after.1 ≡ carried (writable_of missing before.0 before.1 j) after.1 before.1
   pub elsewhere : (other : List ℕ) → Agrees before.0 j before.1 other
       → EffectWithout missing j (before.0, other) taken.turn (after.0, carried taken.written after.1 other)
 

@@ -36,6 +36,11 @@ plan_later (c ∷ cs) size response = ToExecute
 plan_later [] None response = NoMessage
 plan_later [] (Some n) response = plan_message n response
 
+-- whether that plan depends on the next response descriptor: nothing is pending, and a message waits
+abbrev pub awaits_delivery : List Command → Option ℕ → Bool
+awaits_delivery [] (Some n) = true
+awaits_delivery _ _ = false
+
 -- the port looks for a command: the plan by the next command descriptor; `later` is the plan if nothing is fetched
 abbrev pub plan_found : Option Descriptor → Plan → Plan
 plan_found None later = NoCommandRing
@@ -50,6 +55,11 @@ plan_running false command later = later
 abbrev pub plan_in : Phase → Plan → Plan
 plan_in Running plan = plan
 plan_in _ plan = AtRest
+
+-- a port in this phase looks at a ring if it runs and this test holds
+abbrev pub looks_in : Phase → Bool → Bool
+looks_in Running looks = looks
+looks_in _ looks = false
 
 -- the number of bytes of the next message, if there is one: an attention message first, then an end message
 abbrev pub next_size : PortState → Option ℕ
@@ -69,6 +79,13 @@ plan_by port command response =
 abbrev pub plan_of : PortState → List ℕ → Plan
 plan_of port memory =
     plan_by port (next_descriptor memory port.commands) (next_descriptor memory port.responses)
+
+-- the rings that the next turn looks at: it reads no descriptor of another
+abbrev pub looks_at_commands : PortState → Bool
+looks_at_commands port = looks_in port.phase (may_fetch port)
+
+abbrev pub looks_at_responses : PortState → Bool
+looks_at_responses port = looks_in port.phase (awaits_delivery port.exec.pending (next_size port))
 
 -- a message that is to be delivered has at most 48 bytes
 abbrev pub HasShortText : Plan → Type 0

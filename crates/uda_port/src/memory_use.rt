@@ -3,7 +3,7 @@
 //! UDA50 Programmer's Documentation Kit: command ring polling, message envelopes, UNIBUS addresses.
 ghost use Rattle.std.specs.Prelude.{◌≡◌, ◌≤◌, ◌<◌, ◌+◌, ℕ, List, All, length};
 ghost use Rattle.uda_mem.specs.Slices.{IsMemory};
-ghost use Rattle.uda_mem.specs.Ranges.{LiesIn, range_in};
+ghost use Rattle.uda_mem.specs.Ranges.{LiesIn};
 ghost use Rattle.uda_exec.specs.Disks.{PENDING_LIMIT};
 ghost use Rattle.uda_port.specs.Fetch.{IsNext};
 ghost use Rattle.uda_port.specs.Interrupt.{ring_before};
@@ -11,7 +11,7 @@ ghost use Rattle.uda_port.specs.Packet.{text_address};
 ghost use Rattle.uda_port.specs.Ring.{descriptor_address};
 ghost use Rattle.uda_port.specs.MemoryUse.{IsPlace, descriptor_ranges, packet_range, indicator_range, returned_range};
 ghost use Rattle.uda_port.specs.MemoryUse.{fetch_use, written_by_fetch, has_text, command_use, delivery_use};
-ghost use Rattle.uda_port.specs.MemoryUse.{has_room, looked_up, use_by, use_of, AgreesInDescriptors};
+ghost use Rattle.uda_port.specs.MemoryUse.{has_room, looked_at, looked_up, use_by, use_of, AgreesInDescriptors};
 ghost use Rattle.uda_port.specs.Plan.{HasShortText, plan_of};
 
 use crate::descriptor::Descriptor;
@@ -30,7 +30,9 @@ pub struct MemoryUse {
     /// The packet, or the buffer of the command. The turn reads or writes it, or part of it. Of a transfer of 0 bytes it
     /// is one byte: the turn doesn't read it, but its address must lead somewhere.
     pub body: ByteRange,
-    /// What the turn writes, in this order. Some of the ranges may be empty.
+    /// Whether the turn reads the body. If it doesn't, as the buffer of a Read, only its addresses matter.
+    pub reads_body: bool,
+    /// What the turn may write, in this order. Some of the ranges may be empty.
     pub written: [ByteRange; 4],
 }
 
@@ -55,6 +57,7 @@ pub(crate) const NONE_WRITTEN: [ByteRange; 4] = [
 /// The use of a turn that uses only descriptors.
 const NO_USE: MemoryUse = MemoryUse {
     body: ByteRange::EMPTY,
+    reads_body: false,
     written: NONE_WRITTEN,
 };
 
@@ -70,17 +73,20 @@ impl<S: BlockStore> Port<S> {
     }
 
     /// Returns the ranges of the next command descriptor, the one before it, the next response descriptor, and
-    /// the one before that. Of memory only the length matters.
+    /// the one before that. Those of a ring at which the next turn doesn't look are empty. Of memory only the length
+    /// matters.
     pub fn descriptor_ranges(&self, memory: &[u8]) -> [ByteRange; 4]
         requires memory { IsMemory memory.now }
         ensures ranges { result ≡ descriptor_ranges self.now memory.now }
         ensures within { All (LiesIn memory.now) result }
     {
+        let commands = self.looks_at_commands();
+        let responses = self.looks_at_responses();
         [
-            self.commands.next_range(memory),
-            self.commands.range_before(memory),
-            self.responses.next_range(memory),
-            self.responses.range_before(memory),
+            self.commands.next_range(commands, memory),
+            self.commands.range_before(commands, memory),
+            self.responses.next_range(responses, memory),
+            self.responses.range_before(responses, memory),
         ]
     }
 
@@ -92,6 +98,8 @@ impl<S: BlockStore> Port<S> {
         ensures uses { result ≡ use_of self.now memory.now place }
         ensures body_by_descriptors { (other : List ℕ) → AgreesInDescriptors self.now memory.now other
             → (use_of self.now other place).body ≡ result.body }
+        ensures reads_by_descriptors { (other : List ℕ) → AgreesInDescriptors self.now memory.now other
+            → (use_of self.now other place).reads_body ≡ result.reads_body }
         ensures body_within { LiesIn memory.now result.body }
         ensures written_within { All (LiesIn memory.now) result.written }
     {
@@ -129,6 +137,7 @@ impl<S: BlockStore> Port<S> {
         let at = next.text_address(self.profile);
         MemoryUse {
             body: packet_range(memory, at, TEXT),
+            reads_body: true,
             written: self.written_by_fetch(memory, next, has_text(memory, at, TEXT)),
         }
     }
@@ -166,6 +175,7 @@ impl<S: BlockStore> Port<S> {
         let at = next.text_address(self.profile);
         let mut uses = MemoryUse {
             body: packet_range(memory, at, size),
+            reads_body: true,
             written: NONE_WRITTEN,
         };
         if has_room(self.profile, memory, at, size) {
@@ -185,22 +195,30 @@ impl<S: BlockStore> Port<S> {
 }
 
 impl Ring {
-    // Returns the range of the next descriptor.
-    fn next_range(&self, memory: &[u8]) -> ByteRange
+    // Returns the range of the next descriptor, if the turn looks at it.
+    fn next_range(&self, looks: bool, memory: &[u8]) -> ByteRange
         requires memory { IsMemory memory.now }
-        ensures range { result ≡ range_in memory.now (descriptor_address self.now) 4 }
+        ensures range { result ≡ looked_at looks memory.now self.now }
         ensures within { LiesIn memory.now result }
     {
-        ByteRange::clipped(self.address(), 4, memory)
+        if looks {
+            ByteRange::clipped(self.address(), 4, memory)
+        } else {
+            ByteRange::EMPTY
+        }
     }
 
-    // Returns the range of the descriptor before it.
-    fn range_before(&self, memory: &[u8]) -> ByteRange
+    // Returns the range of the descriptor before it, if the turn looks at it.
+    fn range_before(&self, looks: bool, memory: &[u8]) -> ByteRange
         requires memory { IsMemory memory.now }
-        ensures range { result ≡ range_in memory.now (descriptor_address (ring_before self.now)) 4 }
+        ensures range { result ≡ looked_at looks memory.now (ring_before self.now) }
         ensures within { LiesIn memory.now result }
     {
-        ByteRange::clipped(self.address_before(), 4, memory)
+        if looks {
+            ByteRange::clipped(self.address_before(), 4, memory)
+        } else {
+            ByteRange::EMPTY
+        }
     }
 
     // Returns the range of the second word of the next descriptor.
@@ -224,6 +242,7 @@ fn command_use(memory: &[u8], buffer: Option<BufferUse>) -> MemoryUse
     let mut uses = NO_USE;
     if let Some(buffer) = buffer {
         uses.body = ByteRange::clipped(buffer.start, looked_up(buffer), memory);
+        uses.reads_body = buffer.changed == 0;
         uses.written[0] = ByteRange::clipped(buffer.start, buffer.changed, memory);
     }
     uses

@@ -4,6 +4,7 @@
 ghost use Rattle.std.specs.Prelude.{◌≡◌, ◌≤◌, IfSome};
 ghost use Rattle.uda_mem.specs.Slices.{IsMemory};
 ghost use Rattle.uda_port.specs.Plan.{HasShortText, next_size, plan_of, plan_running, plan_without_fetch};
+ghost use Rattle.uda_port.specs.Plan.{looks_at_commands, looks_at_responses};
 ghost use Rattle.uda_port.specs.Ring.{next_descriptor};
 ghost use Rattle.uda_port.specs.Turn.{may_fetch};
 
@@ -45,6 +46,26 @@ impl<S: BlockStore> Port<S> {
         match self.phase {
             Phase::Running => self.running_plan(memory),
             _ => Plan::AtRest,
+        }
+    }
+
+    // Returns whether the next turn looks at the command ring.
+    pub(crate) fn looks_at_commands(&self) -> bool
+        ensures looks { result ≡ looks_at_commands self.now }
+    {
+        match self.phase {
+            Phase::Running => self.may_fetch(),
+            _ => false,
+        }
+    }
+
+    // Returns whether the next turn may look at the response ring: nothing is pending, and a message waits.
+    pub(crate) fn looks_at_responses(&self) -> bool
+        ensures looks { result ≡ looks_at_responses self.now }
+    {
+        match self.phase {
+            Phase::Running => self.exec.pending() == 0 && self.next_size().is_some(),
+            _ => false,
         }
     }
 

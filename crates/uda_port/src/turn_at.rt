@@ -14,7 +14,7 @@ ghost use Rattle.uda_port.specs.Trace.{Reports, Traces, turn_of};
 ghost use Rattle.uda_port.specs.Turn.{TurnEffect, may_fetch, port_turn_on, port_not_polling};
 ghost use Rattle.uda_port.specs.MemoryUse.{NONE_WRITTEN, fate_at, fate_running, fate_in, FailsUnread, ExecutesWithout};
 ghost use Rattle.uda_port.specs.MemoryUse.{EffectBy, EffectWithout, written_by_fate, IsLocal, IsPlace};
-ghost use Rattle.uda_port.specs.MemoryUse.{HasValidRings, CanFail, Agrees, written_of};
+ghost use Rattle.uda_port.specs.MemoryUse.{HasValidRings, CanFail, Agrees, newest_count, written_after, written_of};
 ghost use Rattle.uda_port.specs.Possible.{CanDie};
 ghost use Rattle.uda_port.specs.declared.phase.Phase.TheVariants.{Running};
 ghost use Rattle.uda_port.specs.declared.plan.Plan.TheVariants.{ToExecute};
@@ -26,6 +26,7 @@ use crate::plan::Plan;
 use crate::port::Port;
 use crate::trace::Trace;
 use crate::turn::{Turn, report_dead};
+use uda_exec::bytes_moved;
 use uda_image::BlockStore;
 use uda_mem::ByteRange;
 
@@ -44,8 +45,8 @@ pub struct BusTurn {
 pub struct TurnTaken {
     /// What the turn did.
     pub turn: Turn,
-    /// Over a bus: the ranges of the window that the turn wrote, in the order of its writes. Some may be empty.
-    /// Otherwise all are empty, whatever the turn wrote.
+    /// Over a bus: the ranges of the window that the turn wrote, in the order of its writes. Some may be empty. Of a
+    /// Read's buffer it is the bytes that the end message counts. Otherwise all are empty, whatever the turn wrote.
     pub written: [ByteRange; 4],
 }
 
@@ -68,10 +69,11 @@ impl<S: BlockStore> Port<S> {
     /// window, which has as many bytes as the bus has addresses.
     ///
     /// Before a turn over a bus the caller copies [`descriptor_ranges`](Port::descriptor_ranges) into the window, and
-    /// then the body of [`memory_use`](Port::memory_use). Nothing else in the window matters. After the turn the
-    /// caller copies the written ranges out of the window, in their order.
+    /// then the body of [`memory_use`](Port::memory_use), if the turn reads it. Nothing else in the window matters. After
+    /// the turn the caller copies the written ranges out of the window, in their order. The rest of a Read's buffer in
+    /// the window may hold anything.
     ///
-    /// `missing` tells in which of the ranges that were copied in an address leads nowhere. A turn that needs one is
+    /// `missing` says in which of these ranges an address leads nowhere. A turn that needs one is
     /// as at the end of memory. For a packet, a response buffer or the next descriptor of a ring the port fails. A
     /// command whose buffer is missing ends with status 0x0069 unless an earlier check fails, and moves nothing. A
     /// turn that doesn't need the range is as usual. A missing descriptor before the next one counts as one that the
@@ -98,7 +100,7 @@ impl<S: BlockStore> Port<S> {
             IsLocal b.now.missing b.now.place (self.old, memory.old) result (self.new, memory.new)) }
         ensures within { All (LiesIn memory.old) result.written }
         ensures written { IfSome bus.entry (λ b. (other : List ℕ) → Agrees self.old b.now.place memory.old other
-            → result.written ≡ written_of b.now.missing self.old other b.now.place) }
+            → result.written ≡ written_of b.now.missing (self.old, other) b.now.place (newest_count self.new)) }
         ensures used_blocks { IfSome bus.entry (λ b. ChangesOnly (blocks_of b.now.missing self.old memory.old b.now.place)
             (block_bytes_of b.now.missing self.old memory.old b.now.place) self.old.exec.units self.new.exec.units) }
         ensures turn { result.turn ≡ turn_of trace.new }
@@ -130,7 +132,7 @@ impl<S: BlockStore> Port<S> {
             IsLocal b.now.missing b.now.place (self.old, memory.old) result (self.new, memory.new)) }
         ensures within { All (LiesIn memory.old) result.written }
         ensures written { IfSome bus.entry (λ b. (other : List ℕ) → Agrees self.old b.now.place memory.old other
-            → result.written ≡ written_of b.now.missing self.old other b.now.place) }
+            → result.written ≡ written_of b.now.missing (self.old, other) b.now.place (newest_count self.new)) }
         ensures used_blocks { IfSome bus.entry (λ b. ChangesOnly (blocks_of b.now.missing self.old memory.old b.now.place)
             (block_bytes_of b.now.missing self.old memory.old b.now.place) self.old.exec.units self.new.exec.units) }
         ensures reports { Reports result.turn trace.new self.old self.new }
@@ -157,7 +159,7 @@ impl<S: BlockStore> Port<S> {
         ensures local { IsLocal bus.now.missing bus.now.place (self.old, memory.old) result (self.new, memory.new) }
         ensures within { All (LiesIn memory.old) result.written }
         ensures written { (other : List ℕ) → Agrees self.old bus.now.place memory.old other
-            → result.written ≡ written_of bus.now.missing self.old other bus.now.place }
+            → result.written ≡ written_of bus.now.missing (self.old, other) bus.now.place (newest_count self.new) }
         ensures used_blocks { ChangesOnly (blocks_of bus.now.missing self.old memory.old bus.now.place)
             (block_bytes_of bus.now.missing self.old memory.old bus.now.place) self.old.exec.units self.new.exec.units }
         ensures reports { Reports result.turn trace.new self.old self.new }
@@ -166,10 +168,19 @@ impl<S: BlockStore> Port<S> {
         let plan = self.plan(memory);
         let uses = self.use_by(plan, memory, bus.place);
         let fate = self.fate(bus.missing, plan);
+        let writable = written_by_fate(fate, uses.written);
         let turn = self.turn_by(memory, bus.place, fate, trace);
-        TurnTaken {
-            turn,
-            written: written_by_fate(fate, uses.written),
+        let written = written_after(plan, self.newest_count(), writable);
+        TurnTaken { turn, written }
+    }
+
+    // Returns the byte count of the newest end message, or 0 if it has none or no end message waits.
+    fn newest_count(&self) -> u32
+        ensures { result ≡ newest_count self.now }
+    {
+        match self.waiting.back() {
+            Some(end) => bytes_moved(end.body),
+            None => 0,
         }
     }
 
@@ -268,7 +279,25 @@ fn fate_at(missing: Missing, plan: Plan) -> Fate
     }
 }
 
-// Returns what a turn with this fate writes, of these ranges.
+// Returns what a turn of this plan wrote of these ranges: an executed command the `count` bytes that its end message
+// counts.
+fn written_after(plan: Plan, count: u32, ranges: [ByteRange; 4]) -> [ByteRange; 4]
+    ensures { result ≡ written_after plan count ranges }
+{
+    match plan {
+        Plan::ToExecute => {
+            let [buffer, second, third, fourth] = ranges;
+            let moved = ByteRange {
+                at: buffer.at,
+                bytes: buffer.bytes.min(count),
+            };
+            [moved, second, third, fourth]
+        }
+        _ => ranges,
+    }
+}
+
+// Returns what a turn with this fate may write, of these ranges.
 fn written_by_fate(fate: Fate, written: [ByteRange; 4]) -> [ByteRange; 4]
     ensures { result ≡ written_by_fate fate written }
 {

@@ -1,8 +1,9 @@
 //! Methods of a slot.
 ghost use Rattle.uda_c.specs.Slots.{TakesSlot, slot_of, is_empty};
-ghost use Rattle.std.specs.Prelude.{◌≡◌};
+ghost use Rattle.std.specs.Prelude.{◌≡◌, length};
 
 use super::Slot;
+use crate::controller::length_of;
 use crate::lent::BorrowedBytes;
 use std::ptr::null_mut;
 
@@ -19,6 +20,23 @@ impl Slot {
                 false
             }
             None => true,
+        }
+    }
+
+    /// Returns the number of bytes in the slot.
+    #[tactic(auto, using(crate::proofs::Lending::put_back))]
+    pub fn length(&mut self) -> usize
+        ensures value { result ≡ length self.old.held }
+        ensures same { self.new ≡ self.old }
+    {
+        match self.take() {
+            Some(lent) => {
+                let mut lent = lent;
+                let bytes = length_of(&mut lent);
+                self.put(lent);
+                bytes
+            }
+            None => 0,
         }
     }
 

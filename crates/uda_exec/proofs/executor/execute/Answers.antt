@@ -58,4 +58,5 @@ returns-in-Some-clause-executes g c =
     let unit = rw (c.in-Some.is, c.from-unit.ensures) at here in
     let asks = act_from _ (asks_some c.args.command.op c.args.memory.now speaks) in
     rw c.from-unit.ensures (executes_on c.args.command asks.0 c.args.units.now c.args.memory.now _ _ _ _
-    asks.1 unit (c.execute.ensures.serves asks.0 asks.1) c.execute.ensures.image_if_sound)
+    asks.1 unit (c.execute.ensures.serves asks.0 asks.1) c.execute.ensures.image_before
+    c.execute.ensures.image_if_sound)

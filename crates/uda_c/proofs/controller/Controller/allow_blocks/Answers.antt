@@ -3,6 +3,7 @@ use Rattle.std.proofs.Common.{◌≡◌, sym, ap, subst, ◌∙◌}
 use Rattle.std.proofs.lemmas.Bool.{le-ltb}
 use Rattle.uda_image.specs.Store.{StoreState}
 use Rattle.uda_exec.specs.Drives.{DriveState, drive_state}
+use Rattle.uda_c.specs.contracts.controller.Controller.{the_view}
 use Rattle.uda_c.specs.ControllerState.{ControllerState}
 use Rattle.uda_c.specs.UnitImage.{unit_state, store_prepared, PreparedAnswer, status_of}
 use Rattle.uda_c.specs.Controllers.{with_store}
@@ -14,18 +15,18 @@ use Rattle.uda_c.proofs.controller.Controller.allow_blocks.Goals as goal
 
 pub invariant_of-self : goal.invariant_of-self
 invariant_of-self c =
-    let was : ControllerState = record { port = c.self.inside.port; last = c.self.inside.last } in
-    let new : ControllerState = record { port = c.put_back.new.port; last = c.self.inside.last } in
+    let was : ControllerState = the_view c.self.inside in
+    let new : ControllerState = the_view (record c.self.inside { port = c.put_back.new.port }) in
     let look = sym c.in-Some.ensures.info in
     let drive = drive_state unit_state c.in-Some-exchange_drive.field-0 in
     let hard = c.in-Some-exchange_drive.field-0.hard in
     let changed : DriveState = record { store = unit_state c.allow-allowed.new.self; hard = hard } in
-    let is : new ≡ with_store was c.args.unit (store_prepared (is_ok c.allow-allowed.result) c.in-Some-prepared.prepared c.args.count) =
-    store_changes was c.args.unit (store_prepared (is_ok c.allow-allowed.result) c.in-Some-prepared.prepared c.args.count) c.in-Some.look drive changed c.exchange_drive.new.self new.port look
+    let is : new ≡ with_store was c.args.unit (store_prepared (is_ok c.allow-allowed.result) c.args.prepared c.args.count) =
+    store_changes was c.args.unit (store_prepared (is_ok c.allow-allowed.result) c.args.prepared c.args.count) c.in-Some.look drive changed c.exchange_drive.new.self new.port look
     c.in-Some-exchange_drive.ensures.returned_drive (ap (λ (s : StoreState). record { store = s; hard = hard }) c.allow-allowed.ensures.state)
     c.exchange_drive.ensures.set c.put_back.ensures.back in (
-      changed_faithful was new c.args.unit (store_prepared (is_ok c.allow-allowed.result) c.in-Some-prepared.prepared c.args.count) is (prepared_faithful (is_ok c.allow-allowed.result) c.in-Some-prepared.prepared c.args.count) c.self.invariant.0,
-      changed_fits was new c.args.unit (store_prepared (is_ok c.allow-allowed.result) c.in-Some-prepared.prepared c.args.count) is (prepared_size (is_ok c.allow-allowed.result) c.in-Some-prepared.prepared c.args.count) c.self.invariant.1,
+      changed_faithful was new c.args.unit (store_prepared (is_ok c.allow-allowed.result) c.args.prepared c.args.count) is (prepared_faithful (is_ok c.allow-allowed.result) c.args.prepared c.args.count) c.self.invariant.0,
+      changed_fits was new c.args.unit (store_prepared (is_ok c.allow-allowed.result) c.args.prepared c.args.count) is (prepared_size (is_ok c.allow-allowed.result) c.args.prepared c.args.count) c.self.invariant.1,
     )
 
 pub invariant_of-self-in-None : goal.invariant_of-self-in-None
@@ -35,29 +36,29 @@ invariant_of-self-in-None c =
 
 pub returns-in-Some-exchange_drive : goal.returns-in-Some-exchange_drive
 returns-in-Some-exchange_drive c =
-    let was : ControllerState = record { port = c.self.inside.port; last = c.self.inside.last } in
-    let new : ControllerState = record { port = c.put_back.new.port; last = c.self.inside.last } in
+    let was : ControllerState = the_view c.self.inside in
+    let new : ControllerState = the_view (record c.self.inside { port = c.put_back.new.port }) in
     let look = sym c.in-Some.ensures.info in
     let drive = drive_state unit_state c.in-Some-exchange_drive.field-0 in
     let hard = c.in-Some-exchange_drive.field-0.hard in
     let changed : DriveState = record { store = unit_state c.allow-allowed.new.self; hard = hard } in
-    let is : new ≡ with_store was c.args.unit (store_prepared (is_ok c.allow-allowed.result) c.in-Some-prepared.prepared c.args.count) =
-    store_changes was c.args.unit (store_prepared (is_ok c.allow-allowed.result) c.in-Some-prepared.prepared c.args.count) c.in-Some.look drive changed c.exchange_drive.new.self new.port look
+    let is : new ≡ with_store was c.args.unit (store_prepared (is_ok c.allow-allowed.result) c.args.prepared c.args.count) =
+    store_changes was c.args.unit (store_prepared (is_ok c.allow-allowed.result) c.args.prepared c.args.count) c.in-Some.look drive changed c.exchange_drive.new.self new.port look
     c.in-Some-exchange_drive.ensures.returned_drive (ap (λ (s : StoreState). record { store = s; hard = hard }) c.allow-allowed.ensures.state)
     c.exchange_drive.ensures.set c.put_back.ensures.back in
     let kind = sym (called_drive_is was c.args.unit c.in-Some.look drive look c.in-Some-exchange_drive.ensures.returned_drive) in
-    let exact = allow_answer_is was c.args.unit c.args.count c.in-Some-prepared.prepared c.in-Some.look drive look
+    let exact = allow_answer_is was c.args.unit c.args.count c.args.prepared c.in-Some.look drive look
     c.in-Some-exchange_drive.ensures.returned_drive in
     let size = sym (drive_size_is was c.args.unit c.in-Some.look drive look c.in-Some-exchange_drive.ensures.returned_drive) in
     let there = has_status was c.args.unit c.in-Some.look (le-ltb 3 c.args.unit c.if-unit-gt3.false) look in
     record {
       allows = subst (λ (old : ControllerState). AllowsBlocks old (c.args.unit, c.args.count) c.args.prepared c.status_of.result new)
           c.self.view_is
-          (rw c.in-Some-prepared.is (allows was c.args.unit c.args.count c.in-Some-prepared.prepared c.allow-allowed.result c.status_of.result new there
+          (allows was c.args.unit c.args.count c.args.prepared c.allow-allowed.result c.status_of.result new there
           (subst (λ b. PreparedAnswer b (status_of c.allow-allowed.result)) kind c.allow-allowed.ensures.kind)
           (c.allow-allowed.ensures.answer ∙ exact)
           (subst (λ (n : ℕ). IfOk c.allow-allowed.result (λ _. c.args.count ≤ n)) size c.allow-allowed.ensures.fits)
-          c.allow-allowed.ensures.refused c.status_of.ensures is));
+          c.allow-allowed.ensures.refused c.status_of.ensures is);
     }
 
 pub returns-in-None : goal.returns-in-None

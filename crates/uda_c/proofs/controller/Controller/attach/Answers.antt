@@ -4,6 +4,7 @@ use Rattle.uda_exec.specs.Drives.{DriveState}
 use Rattle.uda_c.specs.UnitImage.{unit_state}
 use Rattle.uda_c.specs.UnitImageLaws.{faithful_of}
 use Rattle.uda_c.specs.declared.call_status.CallStatus.TheVariants.{Done}
+use Rattle.uda_c.specs.contracts.controller.Controller.{the_view}
 use Rattle.uda_c.specs.ControllerState.{ControllerState}
 use Rattle.uda_c.specs.Controllers.{Attaches}
 use Rattle.uda_c.proofs.FaithfulUnits.{put_faithful}
@@ -14,8 +15,8 @@ use Rattle.uda_c.proofs.controller.Controller.attach.Goals as goal
 pub returns-in-Ok : goal.returns-in-Ok
 returns-in-Ok c =
     let ok = c.in-Ok.ensures.ok in
-    let was : ControllerState = record { port = c.self.inside.port; last = c.self.inside.last } in
-    let new : ControllerState = record { port = c.set_drive.new.self; last = c.self.inside.last } in
+    let was : ControllerState = the_view c.self.inside in
+    let new : ControllerState = the_view (record c.self.inside { port = c.set_drive.new.self }) in
     record {
       attaches = subst (λ (old : ControllerState).
           Attaches (old, c.args.image.now) c.args.unit c.args.hard Done (new, c.take_image.new.slot))

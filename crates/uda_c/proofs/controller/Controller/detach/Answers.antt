@@ -2,6 +2,7 @@ use Rattle.uda_c.specs.declared.slot.Slot.{Slot}
 use Rattle.std.proofs.Common.{ap, refl, sym, subst, ◌∙◌, None}
 use Rattle.uda_exec.specs.Drives.{drive_state}
 use Rattle.uda_c.specs.declared.call_status.CallStatus.TheVariants.{Done, NotEmpty}
+use Rattle.uda_c.specs.contracts.controller.Controller.{the_view}
 use Rattle.uda_c.specs.ControllerState.{ControllerState}
 use Rattle.uda_c.specs.Controllers.{Detaches}
 use Rattle.uda_c.specs.UnitImage.{unit_state}
@@ -15,7 +16,7 @@ use Rattle.uda_c.proofs.controller.Controller.detach.Goals.{in-Some-set_drive, i
 pub returns-in-Some-take : goal.returns-in-Some-take
 returns-in-Some-take c =
     let took = c.in-Some-take.ensures.took in
-    let was : ControllerState = record { port = c.self.inside.port; last = c.self.inside.last } in
+    let was : ControllerState = the_view c.self.inside in
     let after = c.put.new.self in
     record {
       detaches = subst (λ (old : ControllerState).
@@ -34,8 +35,9 @@ invariant_of-self c = (
 
 pub returns : goal.returns
 returns c =
-    let was : ControllerState = record { port = c.self.inside.port; last = c.self.inside.last } in
-    let new : ControllerState = record { port = c.set_drive.new.self; last = c.self.inside.last } in
+    let was : ControllerState = the_view c.self.inside in
+    let port = c.set_drive.new.self in
+    let new : ControllerState = record was { port = port; called = c.any_called-self-inside.result } in
     let after = c.match-set_drive.image in
     let look = sym c.in-Some.ensures.info in
     elim c.match-set_drive.branch [
@@ -43,9 +45,10 @@ returns c =
         detaches = subst (λ (old : ControllerState).
             Detaches (old, c.args.image.now) c.args.unit Done (new, after)) c.self.view_is
             (detaches was c.args.unit c.in-Some._look c.args.image.now after
-            (drive_state unit_state w.in-Some-set_drive.drive) new.port c.if-unit-gt3.false look
+            (drive_state unit_state w.in-Some-set_drive.drive) port c.any_called-self-inside.result c.if-unit-gt3.false look
             c.in_default-take.ensures.took.0 w.in-Some-set_drive.ensures.returned_drive
-            (ap (λ (s : Slot). s.held) w.image-is ∙ w.put_lent.ensures.bytes) c.set_drive.ensures.set);
+            (ap (λ (s : Slot). s.held) w.image-is ∙ w.put_lent.ensures.bytes) c.set_drive.ensures.set
+            c.any_called-self-inside.ensures.called);
       }
       | in_default-set_drive w ↦ absurd (is_handed was.port.exec.units c.args.unit c.in-Some._look look
           w.in_default-set_drive.ensures.returned_drive)

@@ -3,6 +3,7 @@ use Rattle.std.proofs.lemmas.Bool.{le-ltb}
 use Rattle.std.specs.Prelude.{is_ok, ℕ, IfOk, length, ◌+◌, ◌/◌, ◌%◌, ◌≤◌}
 use Rattle.uda_image.specs.Store.{StoreState}
 use Rattle.uda_exec.specs.Drives.{DriveState, drive_state}
+use Rattle.uda_c.specs.contracts.controller.Controller.{the_view}
 use Rattle.uda_c.specs.ControllerState.{ControllerState}
 use Rattle.uda_c.specs.UnitImage.{unit_state, store_lent, LentAnswer, status_of}
 use Rattle.uda_c.specs.Controllers.{with_store}
@@ -14,8 +15,8 @@ use Rattle.uda_c.proofs.controller.Controller.lend_blocks.Goals as goal
 
 pub invariant_of-self : goal.invariant_of-self
 invariant_of-self c =
-    let was : ControllerState = record { port = c.self.inside.port; last = c.self.inside.last } in
-    let new : ControllerState = record { port = c.put_back.new.port; last = c.self.inside.last } in
+    let was : ControllerState = the_view c.self.inside in
+    let new : ControllerState = the_view (record c.self.inside { port = c.put_back.new.port }) in
     let look = sym c.in-Some.ensures.info in
     let drive = drive_state unit_state c.in-Some-exchange_drive.field-0 in
     let hard = c.in-Some-exchange_drive.field-0.hard in
@@ -35,8 +36,8 @@ invariant_of-self-in-None c =
 
 pub returns-in-Some-exchange_drive : goal.returns-in-Some-exchange_drive
 returns-in-Some-exchange_drive c =
-    let was : ControllerState = record { port = c.self.inside.port; last = c.self.inside.last } in
-    let new : ControllerState = record { port = c.put_back.new.port; last = c.self.inside.last } in
+    let was : ControllerState = the_view c.self.inside in
+    let new : ControllerState = the_view (record c.self.inside { port = c.put_back.new.port }) in
     let look = sym c.in-Some.ensures.info in
     let drive = drive_state unit_state c.in-Some-exchange_drive.field-0 in
     let hard = c.in-Some-exchange_drive.field-0.hard in

@@ -1,4 +1,5 @@
-use Rattle.std.proofs.Common.{inl, subst, sym}
+use Rattle.std.proofs.Common.{inl, subst, sym, ◌∙◌}
+use Rattle.std.proofs.lemmas.Bool.{true≢false}
 use Rattle.uda_c.specs.declared.call_status.CallStatus.TheVariants.{Done}
 use Rattle.uda_c.specs.ControllerState.{ControllerState}
 use Rattle.uda_c.specs.Maps.{TakesTurnsThroughMap}
@@ -17,7 +18,10 @@ returns-in-Ok c =
     (ran.result, (s, ran.new.memory))) (sym c.self.view_is) from_old in
     record {
       runs = record {
-        does = λ done. inl (bus, c.in-Ok.ensures.ok.0, runs);
-        refuses = λ other. absurd (other c.in-Ok.ensures.ok.2);
+        refuses = λ called. absurd (true≢false (sym called ∙ c.in-Ok.ensures.uncalled));
+        does = λ _. record {
+          does = λ done. inl (bus, c.in-Ok.ensures.ok.0, runs);
+          refuses = λ other. absurd (other c.in-Ok.ensures.ok.2);
+        };
       };
     }

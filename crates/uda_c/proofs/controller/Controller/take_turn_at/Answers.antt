@@ -1,5 +1,6 @@
 use Rattle.std.proofs.Common.{sym, subst, Some}
 use Rattle.uda_c.specs.declared.call_status.CallStatus.TheVariants.{RanTurn}
+use Rattle.uda_c.specs.contracts.controller.Controller.{the_view}
 use Rattle.uda_c.specs.ControllerState.{ControllerState}
 use Rattle.uda_c.specs.TurnUse.{IsPlaceOf, TakesTurnAt}
 use Rattle.uda_c.proofs.FaithfulUnits.{effect_faithful}
@@ -19,6 +20,7 @@ invariant_of-self c =
 
 pub returns : goal.returns
 returns c =
+    let was : ControllerState = the_view c.self.inside in
     let asked = c.args.turn.now in
     let memory = c.args.memory.now in
     let taken = c.turn_at-taken in
@@ -26,8 +28,10 @@ returns c =
     (record { is_place = c.place_of-place.ensures.place; asked_is = c.place_of-place.ensures.asked }) in
     subst
     (λ (s : ControllerState). TakesTurnAt (s, memory) asked (RanTurn taken.result.turn)
-    (record asked { written = taken.result.written })
-    (record { port = taken.new.self; last = Some taken.new.trace }, taken.new.memory)) c.self.view_is
+    (record asked { written = taken.result.written }) (
+      the_view (record c.self.inside { port = taken.new.self; last = Some taken.new.trace }),
+      taken.new.memory,
+    )) c.self.view_is
     (takes_at _ memory asked c.missing-missing.result c.place_of-place.result taken.result taken.new.trace
     taken.new.self taken.new.memory c.missing-missing.ensures asks taken.ensures.effect_over_bus taken.ensures.local
     taken.ensures.within taken.ensures.written taken.ensures.used_blocks taken.ensures.turn taken.ensures.accurate)

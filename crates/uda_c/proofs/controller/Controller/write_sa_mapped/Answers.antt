@@ -1,4 +1,5 @@
-use Rattle.std.proofs.Common.{List, ℕ, inl, ap, refl, subst, ◌∙◌}
+use Rattle.std.proofs.Common.{List, ℕ, inl, ap, refl, subst, sym, ◌∙◌}
+use Rattle.std.proofs.lemmas.Bool.{true≢false}
 use Rattle.uda_bus.specs.Turns.{WritesSaThroughMap}
 use Rattle.uda_port.specs.Port.{PortState}
 use Rattle.uda_c.specs.ControllerState.{ControllerState}
@@ -27,15 +28,18 @@ returns-in-Ok c =
     (λ (s : ControllerState). WritesSaThroughMap bus.map bus.size (s.port, memory) c.args.word after) is sized in
     record {
       effect = record {
-        does = λ done. inl (
-          bus,
-          ok.0,
-          record {
-            answer_is = refl;
-            steps = steps;
-            last_stays = ap (λ (s : ControllerState). s.last) is;
-          },
-        );
-        refuses = λ other. absurd (other ok.2);
+        refuses = λ called. absurd (true≢false (sym called ∙ c.in-Ok.ensures.uncalled));
+        does = λ _. record {
+          does = λ done. inl (
+            bus,
+            ok.0,
+            record {
+              answer_is = refl;
+              steps = steps;
+              rest_stays = ap (λ (s : ControllerState). record s { port = c.write_sa.new.port }) is;
+            },
+          );
+          refuses = λ other. absurd (other ok.2);
+        };
       };
     }

@@ -10,8 +10,8 @@ use Rattle.uda_port.specs.declared.turn_at.Fate.TheVariants.{WithoutBuffer}
 use Rattle.uda_port.specs.Plan.{plan_of}
 use Rattle.uda_port.specs.Port.{PortState}
 use Rattle.uda_port.specs.Turn.{may_fetch}
-use Rattle.uda_port.specs.MemoryUse.{fate_in, fate_of, CanFail, EffectBy, IsLocal, use_by, use_of, written_by_fate}
-use Rattle.uda_port.proofs.MemoryUseLaws.{is_local, without_buffer, fate_fails, fate_lies, written_there}
+use Rattle.uda_port.specs.MemoryUse.{fate_in, fate_of, CanFail, EffectBy, IsLocal, newest_count, use_by, use_of, written_after, written_by_fate}
+use Rattle.uda_port.proofs.MemoryUseLaws.{after_lies, is_local, without_buffer, fate_fails, fate_lies, written_there}
 use Rattle.uda_port.proofs.TurnBlockChanges.{turn_changes}
 use Rattle.uda_port.proofs.port.Port.take_bus_turn.Goals as goal
 
@@ -35,6 +35,15 @@ returns-clause-effect_over_bus g c =
     (λ (f : Fate). EffectBy f c.args.bus.now.place (old, memory) c.turn_by-turn.result
     (c.turn_by-turn.new.self, c.turn_by-turn.new.memory)) (sym fate) c.turn_by-turn.ensures.effect
 
+-- what the turn wrote, by the steps of the code
+pub written_is : (port : PortState) (memory : List ℕ) (plan : Plan) (fate : Fate) (uses : MemoryUse) (j count : ℕ)
+    (writable written : List ByteRange) (new : PortState) → plan ≡ plan_of port memory → uses ≡ use_of port memory j
+    → count ≡ newest_count new → writable ≡ written_by_fate fate uses.written → written ≡ written_after plan count writable
+    → written ≡ written_after (plan_of port memory) (newest_count new) (written_by_fate fate (use_of port memory j).written)
+written_is port memory plan fate uses j count writable written new planned used counted may is =
+    is ∙ ap₂ (λ (p : Plan) (n : ℕ). written_after p n writable) planned counted
+    ∙ ap (written_after (plan_of port memory) (newest_count new)) (may ∙ ap (λ (u : MemoryUse). written_by_fate fate u.written) used)
+
 pub returns-clause-local : goal.returns-clause-local
 returns-clause-local g c =
     let old = c.args.self.now in
@@ -47,8 +56,9 @@ returns-clause-local g c =
     let fate = planned_fate old memory plan.result plan.ensures.plan bus.missing c.fate-fate.result c.fate-fate.ensures in
     let local = is_local bus.missing bus.place old memory turn.result turn.new.self turn.new.memory c.fate-fate.result
     c.rings_are_valid.ensures.valid fate turn.ensures.effect in
-    let written = c.written_by_fate.ensures
-    ∙ ap (λ (u : MemoryUse). written_by_fate c.fate-fate.result u.written) uses in
+    let written = written_is old memory plan.result c.fate-fate.result c.use_by-uses.result bus.place
+    c.newest_count.result c.written_by_fate-writable.result c.written_after-written.result turn.new.self plan.ensures.plan
+    uses c.newest_count.ensures c.written_by_fate-writable.ensures c.written_after-written.ensures in
     subst
     (λ (w : List ByteRange). IsLocal bus.missing bus.place (old, memory) (record { turn = turn.result; written = w })
     (turn.new.self, turn.new.memory)) (sym written) local
@@ -66,9 +76,11 @@ turn_by-turn-requires g c =
 
 pub returns-clause-within : goal.returns-clause-within
 returns-clause-within g c =
-    subst (All (LiesIn c.args.memory.now)) (sym c.written_by_fate.ensures)
-    (fate_lies c.args.memory.now c.fate-fate.result c.use_by-uses.result.written
-    c.use_by-uses.ensures.written_within)
+    let memory = c.args.memory.now in
+    let lies = subst (All (LiesIn memory)) (sym c.written_by_fate-writable.ensures)
+    (fate_lies memory c.fate-fate.result c.use_by-uses.result.written c.use_by-uses.ensures.written_within) in
+    subst (All (LiesIn memory)) (sym c.written_after-written.ensures)
+    (after_lies memory c.plan-plan.result c.newest_count.result c.written_by_fate-writable.result lies)
 
 pub returns-clause-written : goal.returns-clause-written
 returns-clause-written g c =
@@ -76,12 +88,17 @@ returns-clause-written g c =
     let memory = c.args.memory.now in
     let bus = c.args.bus.now in
     let plan = c.plan-plan in
+    let new = c.turn_by-turn.new.self in
     let uses = planned_use old memory plan.result plan.ensures.plan bus.place c.use_by-uses.result
     c.use_by-uses.ensures.uses in
     let fate = planned_fate old memory plan.result plan.ensures.plan bus.missing c.fate-fate.result c.fate-fate.ensures in
-    λ other agrees. c.written_by_fate.ensures
-    ∙ ap₂ written_by_fate (sym fate) (ap (λ (u : MemoryUse). u.written) uses)
-    ∙ written_there bus.missing bus.place old memory other agrees
+    let written = written_is old memory plan.result c.fate-fate.result c.use_by-uses.result bus.place
+    c.newest_count.result c.written_by_fate-writable.result c.written_after-written.result new plan.ensures.plan
+    uses c.newest_count.ensures c.written_by_fate-writable.ensures c.written_after-written.ensures in
+    λ other agrees. written
+    ∙ ap (λ (f : Fate). written_after (plan_of old memory) (newest_count new)
+    (written_by_fate f (use_of old memory bus.place).written)) (sym fate)
+    ∙ written_there bus.missing bus.place (newest_count new) old memory other agrees
 
 pub returns-clause-used_blocks : goal.returns-clause-used_blocks
 returns-clause-used_blocks g c =

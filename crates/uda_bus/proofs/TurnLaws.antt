@@ -226,25 +226,29 @@ module _ (port : PortState) (map : BusMap) (memory window : List ℕ) where
         let here : SameIn w2 bus body =
         sym (All-head (SameIn bus w2) body []
         (subst (λ (w : List ℕ). All (SameIn bus w) (body ∷ [])) (sym read)
-        (carried_agrees (body ∷ []) bus w1 same))) in
-        (planned w2 fits, record {
-          same_length = sym (kept ∙ same);
-          same_descriptors =
-              subst (All (SameIn w2 bus)) (sym (ranges_of_length port w1 w2 kept))
-              (all_same-sym all bus w2 after);
-          same_body = λ reads. subst (SameIn w2 bus) (same_body w2 fits).range_is here;
-        })
+        (carried_agrees (body ∷ []) bus w1 same))) in (
+          planned w2 fits,
+          record {
+            same_length = sym (kept ∙ same);
+            same_descriptors =
+                subst (All (SameIn w2 bus)) (sym (ranges_of_length port w1 w2 kept))
+                (all_same-sym all bus w2 after);
+            same_body = λ reads. subst (SameIn w2 bus) (same_body w2 fits).range_is here;
+          },
+        )
 
     -- a body that isn't read
     unread_agrees : it.is_read ≡ false → Ready w1
     unread_agrees unread =
         let itself : AgreesInDescriptors port w1 w1 =
-        record { same_length = refl; same_descriptors = λ k d less. refl } in
-        (planned w1 itself, record {
-          same_length = agrees.same_length;
-          same_descriptors = agrees.same_descriptors;
-          same_body = λ reads. let no : false ≡ true = sym unread ∙ (same_body w1 itself).read_is ∙ reads in absurd (cc);
-        })
+        record { same_length = refl; same_descriptors = λ k d less. refl } in (
+          planned w1 itself,
+          record {
+            same_length = agrees.same_length;
+            same_descriptors = agrees.same_descriptors;
+            same_body = λ reads. let no : false ≡ true = sym unread ∙ (same_body w1 itself).read_is ∙ reads in absurd (cc);
+          },
+        )
 
     ready : w2 ≡ body_read it (bus_memory map (length w1) memory) w1 → Ready w2
     ready read = by it.is_read refl

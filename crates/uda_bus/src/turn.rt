@@ -161,12 +161,7 @@ impl BusMap<'_> {
     }
 
     // Reads into a window what the next turn reads from the bus. Returns that turn.
-    fn read_used<S: BlockStore>(
-        &self,
-        port: &Port<S>,
-        memory: &[u8],
-        window: &mut [u8],
-    ) -> BusTurn
+    fn read_used<S: BlockStore>(&self, port: &Port<S>, memory: &[u8], window: &mut [u8]) -> BusTurn
         requires window { IsMemory window.old }
         ensures begun { IsBegun self.now (length window.old) (port.now, memory.now) result window.new }
         ensures length { length window.new ≡ length window.old }

@@ -151,7 +151,7 @@ uint32_t uda50_turn_at(uda50 *handle, uint8_t *window, size_t length, uda50_turn
    that no bus has, UDA50_BAD_LENGTH for a window that hasn't as many bytes as the bus has addresses, and what
    uda50_turn_at returns for a struct with blocks. Then that turn isn't taken. */
 uint32_t uda50_run_to_blocks(uda50 *handle, uint8_t *memory, size_t length, const uda50_map *map, uint8_t *window,
-                             size_t addresses, uda50_turn_use *turn);
+                             size_t bytes, uda50_turn_use *turn);
 
 /* ---- Words for SA ---- */
 

@@ -1,16 +1,16 @@
 -- The laws of ranges that are read from a bus and written on it, and of turns over them.
 use Rattle.std.proofs.Common.{◌≡◌, ◌↔◌, IsTrue, ℕ, ◌+◌, ◌-◌, ◌<◌, ◌≤◌, suc, min, Bool, true, false, List, [], ◌∷◌, length, get_or, take, drop, refl, sym, ap, ap₂, ◌∙◌, subst, arith, length-drop, length-take}
-use Rattle.std.specs.Prelude.{All, if◌then◌else◌}
+use Rattle.std.specs.Prelude.{All, IsSome, if◌then◌else◌}
 use Rattle.std.proofs.Math.Bool.{not}
 use borrow.Rule.Slice.PartMut.{put_mid}
 use Rattle.std.proofs.Math.Seq.{drop-cons}
 use Rattle.std.proofs.lemmas.List.{drop_all}
-use Rattle.std.proofs.lemmas.List.Elements.{All-head, All-tail}
+use Rattle.std.proofs.lemmas.List.Elements.{All-nil, All-cons, All-head, All-tail}
 use Rattle.uda_mem.specs.declared.range.ByteRange.{ByteRange}
 use Rattle.uda_mem.specs.Put.{put, part}
 use Rattle.uda_mem.specs.Ranges.{EMPTY_RANGE, LiesIn, SameIn, carried}
 use Rattle.uda_mem.proofs.PutLaws.{length-put, put_mid-put, put-nil}
-use Rattle.uda_mem.proofs.RangeLaws.{length-carried}
+use Rattle.uda_mem.proofs.RangeLaws.{length-carried, part_shared}
 use Rattle.uda_port.specs.declared.memory_use.Missing.{Missing}
 use Rattle.uda_port.specs.declared.turn_at.TurnTaken.{TurnTaken}
 use Rattle.uda_port.specs.Interrupt.{ring_before}
@@ -24,9 +24,10 @@ use Rattle.uda_port.specs.declared.plan.Plan.{Plan}
 use Rattle.uda_port.specs.declared.turn_at.BusTurn.{BusTurn}
 use Rattle.uda_bus.specs.declared.map.BusMap.{BusMap}
 use Rattle.uda_bus.specs.Bytes.{shown, stored, AllLead}
-use Rattle.uda_bus.specs.Turns.{bus_memory, body_read, stored_ranges, TellsMissing, IsBegun, IsMissing, TurnsAsBegun}
+use Rattle.uda_bus.specs.Lookup.{byte_at}
+use Rattle.uda_bus.specs.Turns.{bus_memory, body_read, stored_ranges, KeepsBytes, TellsMissing, IsBegun, IsMissing, TurnsAsBegun}
 use Rattle.uda_bus.proofs.ShownLaws.{length-shown, part_shown}
-use Rattle.uda_bus.proofs.CarriedLaws.{carried_agrees, carried_same, all_same-sym, all_same-trans, all_kept}
+use Rattle.uda_bus.proofs.CarriedLaws.{carried_agrees, carried_keeps, carried_same, all_same-sym, all_same-trans, all_kept}
 
 -- the range at an index
 abbrev pub range_at : List ByteRange → ℕ → ByteRange
@@ -144,6 +145,36 @@ length-read map memory window new r size long reads =
     let bus = bus_memory map (length window) memory in
     ap length reads ∙ length-put window r.at (part bus r.at r.bytes) ∙ long
 
+-- a range that was read into a window has the bytes of the bus there, and so has each part of it
+module _ (map : BusMap) (memory window new : List ℕ) (r : ByteRange)
+    (reads : new ≡ carried (r ∷ []) (bus_memory map (length window) memory) window) where
+  abbrev shows : List ℕ
+  shows = bus_memory map (length window) memory
+
+  as_long : length window ≡ length shows
+  as_long = sym (length-shown map memory 0 (length window))
+
+  pub read_shared : SameIn shows new r
+  read_shared =
+      subst (λ (w : List ℕ). SameIn shows w r) (sym reads)
+      (All-head (SameIn shows (carried (r ∷ []) shows window)) r [] (carried_agrees (r ∷ []) shows window as_long))
+
+  pub read_keeps : KeepsBytes shows window new
+  read_keeps q same =
+      subst (λ (w : List ℕ). SameIn shows w q) (sym reads) (carried_keeps (r ∷ []) shows window q as_long same)
+
+  pub read_part : (q : ByteRange) → r.at ≤ q.at → q.at + q.bytes ≤ r.at + r.bytes → SameIn shows new q
+  read_part q from to =
+      let long : length new ≡ length shows = ap length reads ∙ length-carried (r ∷ []) shows window ∙ as_long in
+      part_shared shows new r.at r.bytes q.at q.bytes long read_shared from to
+
+-- each address of a part leads somewhere
+pub part_leads : (map : BusMap) (memory : List ℕ) (at n a m : ℕ) → AllLead map memory at n → at ≤ a → a + m ≤ at + n
+    → AllLead map memory a m
+part_leads map memory at n a m all from to i below =
+    let there : at + (a - at + i) ≡ a + i = omega arith in
+    subst (λ (k : ℕ). IsSome (byte_at map memory k)) there (all (a - at + i) (omega arith))
+
 ranges_of_length : (port : PortState) (memory other : List ℕ) → length other ≡ length memory
     → descriptor_ranges port other ≡ descriptor_ranges port memory
 ranges_of_length port memory other long =
@@ -165,37 +196,32 @@ module _ (port : PortState) (map : BusMap) (memory window : List ℕ) where
   length-bus : length bus ≡ length window
   length-bus = length-shown map memory 0 (length window)
 
-  four_read : (w1 w2 w3 w4 : List ℕ) (a b c d : ByteRange) → Reads map memory window a w1
-      → Reads map memory w1 b w2 → Reads map memory w2 c w3 → Reads map memory w3 d w4
-      → w4 ≡ carried (a ∷ b ∷ c ∷ d ∷ []) bus window
-  four_read w1 w2 w3 w4 a b c d h1 h2 h3 h4 =
-      let size = length window in
-      let l1 = length-read map memory window w1 a size refl h1 in
-      let l2 = length-read map memory w1 w2 b size l1 h2 in
-      let l3 = length-read map memory w2 w3 c size l2 h3 in
-      let second = read_as map memory w1 w2 b size l1 h2 ∙ ap (carried (b ∷ []) bus) h1 in
-      let third = read_as map memory w2 w3 c size l2 h3 ∙ ap (carried (c ∷ []) bus) second in
-      read_as map memory w3 w4 d size l3 h4 ∙ ap (carried (d ∷ []) bus) third
-
-  pub descriptors_agree : (w1 w2 w3 w4 : List ℕ) (rs : List ByteRange) → rs ≡ descriptor_ranges port window
-      → Reads map memory window (range_at rs 0) w1 → Reads map memory w1 (range_at rs 1) w2
-      → Reads map memory w2 (range_at rs 2) w3 → Reads map memory w3 (range_at rs 3) w4
-      → AgreesInDescriptors port w4 bus
-  descriptors_agree w1 w2 w3 w4 rs is h1 h2 h3 h4 =
+  pub descriptors_agree : (w2 w4 : List ℕ) (rs : List ByteRange) → rs ≡ descriptor_ranges port window
+      → length w2 ≡ length window → length w4 ≡ length w2 → SameIn bus w2 (range_at rs 0) → SameIn bus w2 (range_at rs 1)
+      → KeepsBytes (bus_memory map (length w2) memory) w2 w4
+      → SameIn (bus_memory map (length w2) memory) w4 (range_at rs 2)
+      → SameIn (bus_memory map (length w2) memory) w4 (range_at rs 3) → AgreesInDescriptors port w4 bus
+  descriptors_agree w2 w4 rs is long long' first second kept third fourth =
       let all = descriptor_ranges port window in
-      let read : w4 ≡ carried all bus window =
-      four_read w1 w2 w3 w4 (range_at rs 0) (range_at rs 1) (range_at rs 2) (range_at rs 3) h1 h2 h3 h4
-      ∙ ap (λ (r : List ByteRange).
-      carried (range_at r 0 ∷ range_at r 1 ∷ range_at r 2 ∷ range_at r 3 ∷ []) bus window) is in
-      let long : length w4 ≡ length window = ap length read ∙ length-carried all bus window in
+      let same : bus_memory map (length w2) memory ≡ bus = ap (λ n. bus_memory map n memory) long in
+      let keeps = subst (λ (b : List ℕ). KeepsBytes b w2 w4) same kept in
+      let at : (i : ℕ) → SameIn bus w4 (range_at rs i) → SameIn bus w4 (range_at all i) =
+      λ i. subst (λ (r : List ByteRange). SameIn bus w4 (range_at r i)) is in
+      let whole : length w4 ≡ length window = long' ∙ long in
+      let a = range_at all 0 in
+      let b = range_at all 1 in
+      let c = range_at all 2 in
+      let d = range_at all 3 in
       let shared : All (SameIn bus w4) all =
-      subst (λ (w : List ℕ). All (SameIn bus w) all) (sym read)
-      (carried_agrees all bus window (sym length-bus)) in
+      All-cons (SameIn bus w4) a (b ∷ c ∷ d ∷ []) (at 0 (keeps (range_at rs 0) first))
+      (All-cons (SameIn bus w4) b (c ∷ d ∷ []) (at 1 (keeps (range_at rs 1) second))
+      (All-cons (SameIn bus w4) c (d ∷ []) (at 2 (subst (λ (b : List ℕ). SameIn b w4 (range_at rs 2)) same third))
+      (All-cons (SameIn bus w4) d [] (at 3 (subst (λ (b : List ℕ). SameIn b w4 (range_at rs 3)) same fourth))
+      (All-nil (SameIn bus w4))))) in
       record {
-        same_length = length-bus ∙ sym long;
+        same_length = length-bus ∙ sym whole;
         same_descriptors =
-            subst (All (SameIn w4 bus)) (sym (ranges_of_length port window w4 long))
-            (all_same-sym all bus w4 shared);
+            subst (All (SameIn w4 bus)) (sym (ranges_of_length port window w4 whole)) (all_same-sym all bus w4 shared);
       }
 
   module _ (plan : Plan) (place : ℕ) (w1 w2 : List ℕ) (it : Body) (long : length w1 ≡ length window)

@@ -4,7 +4,7 @@
 use Rattle.std.specs.Prelude.{◌≡◌, ◌↔◌, ℕ, Bool, false, List, [], ◌∷◌, if◌then◌else◌}
 use Rattle.uda_mem.specs.declared.range.ByteRange.{ByteRange}
 use Rattle.uda_mem.specs.Put.{part}
-use Rattle.uda_mem.specs.Ranges.{carried}
+use Rattle.uda_mem.specs.Ranges.{SameIn, carried}
 use Rattle.uda_port.specs.declared.memory_use.Missing.{Missing}
 use Rattle.uda_port.specs.declared.turn.Turn.{Turn}
 use Rattle.uda_port.specs.Port.{PortState}
@@ -30,6 +30,10 @@ stored_ranges map (r ∷ rest) bus memory =
 -- a window after the body of a turn was read into it, if the turn reads it
 abbrev pub body_read : Body → List ℕ → List ℕ → List ℕ
 body_read body bus window = if body.is_read then carried (body.range ∷ []) bus window else window
+
+-- a window has the bytes of the bus wherever another one has them
+abbrev pub KeepsBytes : List ℕ → List ℕ → List ℕ → Type 0
+KeepsBytes bus old new = (r : ByteRange) → SameIn bus old r → SameIn bus new r
 
 -- a flag is set exactly if an address of a range leads nowhere
 abbrev pub TellsMissing : BusMap → List ℕ → ByteRange → Bool → Type 0

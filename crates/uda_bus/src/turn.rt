@@ -1,8 +1,8 @@
 //! Turns of a port over memory through map registers, and words that are written to its SA.
-ghost use Rattle.std.specs.Prelude.{◌≡◌, ◌↔◌, ◌%◌, ◌^◌, ◌<◌, ◌≤◌, [], ◌∷◌, All, length, IsTrue};
+ghost use Rattle.std.specs.Prelude.{◌≡◌, ◌↔◌, ◌%◌, ◌^◌, ◌<◌, ◌≤◌, [], ◌∷◌, All, length, IsTrue, true};
 ghost use Rattle.std.specs.Prelude.{IsOk, IfOk, IfErr};
 ghost use Rattle.uda_mem.specs.Put.{part};
-ghost use Rattle.uda_mem.specs.Ranges.{LiesIn, carried};
+ghost use Rattle.uda_mem.specs.Ranges.{LiesIn, SameIn, carried};
 ghost use Rattle.uda_mem.specs.Slices.{IsMemory};
 ghost use Rattle.uda_disk.specs.Units.{AreWellFormed};
 ghost use Rattle.uda_exec.specs.BlockChanges.{ChangesOnly};
@@ -12,7 +12,7 @@ ghost use Rattle.uda_port.specs.MemoryUse.{command_range, response_range, Agrees
 ghost use Rattle.uda_port.specs.Port.{CreditsAgree};
 ghost use Rattle.uda_port.specs.Trace.{Traces, turn_of};
 ghost use Rattle.uda_bus.specs.Bytes.{stored, AllLead};
-ghost use Rattle.uda_bus.specs.Turns.{bus_memory, body_read, stored_ranges, IsBegun, TurnsAsBegun, TurnsThroughMap, WritesSaThroughMap};
+ghost use Rattle.uda_bus.specs.Turns.{bus_memory, body_read, stored_ranges, IsBegun, TurnsAsBegun, TurnsThroughMap, WritesSaThroughMap, KeepsBytes};
 ghost use Rattle.uda_bus.specs.Turns.{TellsMissing};
 
 use crate::map::BusMap;
@@ -228,15 +228,69 @@ impl BusMap<'_> {
         ensures length { length window.new ≡ length window.old }
     {
         let [command, command_before, response, response_before] = port.descriptor_ranges(window);
-        let commands = !self.read_range(memory, command, window);
-        self.read_range(memory, command_before, window);
-        let responses = !self.read_range(memory, response, window);
-        self.read_range(memory, response_before, window);
+        let commands = !self.read_pair(memory, command, command_before, window);
+        let responses = !self.read_pair(memory, response, response_before, window);
         Missing {
             commands,
             responses,
             body: false,
         }
+    }
+
+    // Reads into a window a descriptor and the one before it. Returns whether each address of the first leads to a byte
+    // of memory.
+    fn read_pair(
+        &self,
+        memory: &[u8],
+        next: ByteRange,
+        before: ByteRange,
+        window: &mut [u8],
+    ) -> bool
+        requires window { IsMemory window.old }
+        requires next { LiesIn window.old next }
+        requires before { LiesIn window.old before }
+        ensures next { SameIn (bus_memory self.now (length window.old) memory.now) window.new next }
+        ensures before { SameIn (bus_memory self.now (length window.old) memory.now) window.new before }
+        ensures kept { KeepsBytes (bus_memory self.now (length window.old) memory.now) window.old window.new }
+        ensures length { length window.new ≡ length window.old }
+        ensures whole { IsTrue result ↔ AllLead self.now memory.now next.at next.bytes }
+    {
+        if self.read_both(memory, next, before, window) {
+            return true;
+        }
+        self.read_range(memory, before, window);
+        self.read_range(memory, next, window)
+    }
+
+    // Reads both at once, if they are side by side. Returns whether that was done, and each address leads to a byte of
+    // memory.
+    fn read_both(
+        &self,
+        memory: &[u8],
+        next: ByteRange,
+        before: ByteRange,
+        window: &mut [u8],
+    ) -> bool
+        requires window { IsMemory window.old }
+        requires next { LiesIn window.old next }
+        requires before { LiesIn window.old before }
+        ensures next { result ≡ true → SameIn (bus_memory self.now (length window.old) memory.now) window.new next }
+        ensures before { result ≡ true
+            → SameIn (bus_memory self.now (length window.old) memory.now) window.new before }
+        ensures kept { KeepsBytes (bus_memory self.now (length window.old) memory.now) window.old window.new }
+        ensures length { length window.new ≡ length window.old }
+        ensures whole { result ≡ true → AllLead self.now memory.now next.at next.bytes }
+    {
+        if before.bytes == 0
+            || u64::from(before.at) + u64::from(before.bytes) != u64::from(next.at)
+        {
+            return false;
+        }
+        let both = ByteRange {
+            at: before.at,
+            bytes: before.bytes + next.bytes,
+        };
+        self.read_range(memory, both, window)
     }
 
     // Reads the body of a turn into a window, if the turn reads it. Returns whether each of its addresses leads to

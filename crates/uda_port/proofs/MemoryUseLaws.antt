@@ -7,6 +7,7 @@ use Rattle.std.proofs.lemmas.Bool.{and_parts, cond_both, eq-eqb, leb-true, le-le
 use Rattle.std.proofs.lemmas.Bool.Decides.{nat_tests}
 use Rattle.std.proofs.lemmas.List.Elements.{All-nil, All-cons, All-head, All-tail}
 use Rattle.std.proofs.lemmas.Option.{slice_get_past, slice_get-get_or}
+use Rattle.uda_disk.proofs.Lists.{slice_get-last}
 use Rattle.uda_mem.specs.declared.range.ByteRange.{ByteRange}
 use Rattle.uda_mem.specs.Put.{put, part}
 use Rattle.uda_mem.specs.Ranges.{EMPTY_RANGE, range_in, LiesIn, SameIn, carried}
@@ -68,28 +69,26 @@ use Rattle.uda_port.proofs.TurnLaws.{executes_for, attention_first, first_text}
 
 -- ---- what is read
 
-word_shared : (memory other : List ℕ) (at : ℕ) → part other at 2 ≡ part memory at 2
-    → word_at other at ≡ word_at memory at
+-- a word in a range with the same bytes
+word_there : (memory other : List ℕ) (at n k : ℕ) → length other ≡ length memory
+    → SameIn memory other (range_in memory at n) → at ≤ k → k + 2 ≤ at + n → word_at other k ≡ word_at memory k
 unfolding word_at
-word_shared memory other at h = rw h refl
+word_there memory other at n k same h low high =
+    rw (part_shared memory other at n k 2 same (part_in memory other at n same h) low high)
 
 -- a descriptor
 descriptor_same : (memory other : List ℕ) (at : ℕ) → length other ≡ length memory
     → SameIn memory other (range_in memory at 4) → descriptor_at other at ≡ descriptor_at memory at
 descriptor_same memory other at same h =
-    let four = part_in memory other at 4 same h in
-    let low = word_shared memory other at (part_shared memory other at 4 at 2 same four (omega arith) (omega arith)) in
-    let high = word_shared memory other (at + 2)
-    (part_shared memory other at 4 (at + 2) 2 same four (omega arith) (omega arith)) in
-    let make : ℕ → ℕ → ℕ → Option Descriptor =
-    λ size l h. if nat_le (at + 4) size then Some (record { low = l; high = h }) else None in
-    ap (λ (n : ℕ). make n (word_at other at) (word_at other (at + 2))) same ∙ ap₂ (make (length memory)) low high
+    let low = word_there memory other at 4 at same h (omega arith) (omega arith) in
+    let high = word_there memory other at 4 (at + 2) same h (omega arith) (omega arith) in
+    rw (same, low, high)
 
 -- one at which the turn looks
 looked_same : (looks : Bool) (memory other : List ℕ) (r : RingState) → length other ≡ length memory
     → SameIn memory other (looked_at looks memory r) → looks ≡ true
     → next_descriptor other r ≡ next_descriptor memory r
-looked_same true memory other r same h looks = descriptor_same memory other (descriptor_address r) same h
+looked_same true memory other r same h looks = descriptor_same memory other _ same h
 looked_same false memory other r same h looks = absurd (cc)
 
 -- the descriptors that a turn reads
@@ -140,9 +139,7 @@ indicator_same : (profile : Profile) (indicator : Option ℕ) (memory other : Li
     → next_descriptor other r ≡ next_descriptor memory r
     → next_descriptor other (ring_before r) ≡ next_descriptor memory (ring_before r)
     → indicator_at profile indicator other r ≡ indicator_at profile indicator memory r
-indicator_same Strict indicator memory other r here before = refl
-indicator_same (Compatible identity) indicator memory other r here before =
-    ap₂ (λ (x y : Option Descriptor). if any_flagged x && any_owned y then indicator else None) here before
+indicator_same profile indicator memory other r here before = grind arith
 
 command_indicator_same : (port : PortState) (memory other : List ℕ) → SameDescriptors port memory other
     → looks_at_commands port ≡ true → command_indicator port other ≡ command_indicator port memory
@@ -159,56 +156,43 @@ response_indicator_same port memory other s at =
 -- a packet
 text_there : (memory other : List ℕ) (at n : ℕ) → length other ≡ length memory → HasText memory at n
     → HasText other at n
-text_there memory other at n same h =
-    record { even = h.even; above = h.above; within = omega (arith, h.within, same) }
+text_there memory other at n same h = search arith
 
 packet_there : (memory other : List ℕ) (at : ℕ) (p : Fetched) → length other ≡ length memory
     → HasPacket memory at → SameIn memory other (packet_range memory at 48) → IsPacketAt memory at p
     → IsPacketAt other at p
 packet_there memory other at p same has h is =
     let above = has.above in
-    let all = part_in memory other (at - 4) 52 same h in
     record {
-      first_word =
-          is.first_word ∙ sym (word_shared memory other (at - 4)
-          (part_shared memory other (at - 4) 52 (at - 4) 2 same all (omega arith) (omega arith)));
-      second_word =
-          is.second_word ∙ sym (word_shared memory other (at - 2)
-          (part_shared memory other (at - 4) 52 (at - 2) 2 same all (omega arith) (omega arith)));
-      text = is.text ∙ sym (part_shared memory other (at - 4) 52 at 48 same all (omega arith) (omega arith));
+      first_word = is.first_word ∙ sym (word_there memory other (at - 4) 52 (at - 4) same h (omega arith) (omega arith));
+      second_word = is.second_word ∙ sym (word_there memory other (at - 4) 52 (at - 2) same h (omega arith) (omega arith));
+      text = is.text ∙ sym (part_shared memory other (at - 4) 52 at 48 same
+          (part_in memory other (at - 4) 52 same h) (omega arith) (omega arith));
     }
 
 -- ---- room
 
 text_true : (memory : List ℕ) (at n : ℕ) → HasText memory at n → has_text memory at n ≡ true
-text_true memory at n h =
-    rw (eq-eqb (at % 2) 0 h.even, le-leb 4 at h.above, le-leb (at + n) (length memory) h.within) refl
+text_true memory at n h = grind (arith, nat_tests)
 
 text_from : (memory : List ℕ) (at n : ℕ) → has_text memory at n ≡ true → HasText memory at n
-text_from memory at n h = record {
-  even = grind (arith, nat_tests);
-  above = grind (arith, nat_tests);
-  within = grind (arith, nat_tests);
-}
+text_from memory at n h = search (arith, and_parts, nat_tests)
 
 -- a test that holds exactly if this does
 decides : (P : Type 0) (a b : Bool) → (P → a ≡ true) → (a ≡ true → P) → (b ≡ true → P) → (P → b ≡ true) → b ≡ a
-decides P a true to from has is = sym (to (has refl))
-decides P true false to from has is = is (from refl)
-decides P false false to from has is = refl
+decides P a b to from has is = grind arith
+
+-- a test that doesn't hold
+fails : (P : Type 0) (a : Bool) → (a ≡ true → P) → (P → ⊥) → a ≡ false
+fails P a from never = grind arith
 
 pub text_iff : (memory : List ℕ) (at n : ℕ) (b : Bool) → (b ≡ true → HasText memory at n)
     → (HasText memory at n → b ≡ true) → b ≡ has_text memory at n
 text_iff memory at n b = decides (HasText memory at n) _ b (text_true memory at n) (text_from memory at n)
 
-not_text : (memory : List ℕ) (at n : ℕ) → (HasText memory at n → ⊥) → has_text memory at n ≡ false
-not_text memory at n never = sym (text_iff memory at n false (λ no. absurd (cc)) (λ has. absurd (never has)))
-
 room_true : (profile : Profile) (memory : List ℕ) (at n : ℕ) → HasRoom profile memory at n
     → has_room profile memory at n ≡ true
-room_true Strict memory at n h =
-    rw (text_true memory at 48 h.packet, le-leb 48 (word_at memory (at - 4)) h.long) refl
-room_true (Compatible identity) memory at n h = text_true memory at n h
+room_true profile memory at n h = grind (arith, nat_tests)
 
 room_from : (profile : Profile) (memory : List ℕ) (at n : ℕ) → has_room profile memory at n ≡ true
     → HasRoom profile memory at n
@@ -217,19 +201,11 @@ room_from Strict memory at n h =
     record { packet = text_from memory at 48 both.0; long = leb-true _ _ both.1 }
 room_from (Compatible identity) memory at n h = text_from memory at n h
 
-not_room : (profile : Profile) (memory : List ℕ) (at n : ℕ) → (HasRoom profile memory at n → ⊥)
-    → has_room profile memory at n ≡ false
-not_room profile memory at n never =
-    sym (decides (HasRoom profile memory at n) _ false (room_true profile memory at n) (room_from profile memory at n)
-    (λ no. absurd (cc)) (λ has. absurd (never has)))
-
 room_there : (profile : Profile) (memory other : List ℕ) (at n : ℕ) → length other ≡ length memory
     → SameIn memory other (packet_range memory at n) → HasRoom profile memory at n
     → HasRoom profile other at n
 room_there Strict memory other at n same h room =
-    let all = part_in memory other (at - 4) (n + 4) same h in
-    let word = word_shared memory other (at - 4)
-    (part_shared memory other (at - 4) (n + 4) (at - 4) 2 same all (omega arith) (omega arith)) in
+    let word = word_there memory other (at - 4) (n + 4) (at - 4) same h (omega arith) (omega arith) in
     record { packet = text_there memory other at 48 same room.packet; long = rw word room.long }
 room_there (Compatible identity) memory other at n same h room = text_there memory other at n same room
 
@@ -272,14 +248,13 @@ fetch_writes indicator r d = indicator_write indicator ∷ returned_write r d �
 puts_fetch : (indicator : Option ℕ) (r : RingState) (d : Descriptor) (memory : List ℕ)
     → puts (fetch_writes indicator r d) memory ≡ memory_returned (memory_with_indicator memory indicator) r d
 puts_fetch indicator r d memory =
-    put-nil _ 0 ∙ put-nil _ 0 ∙ ap (λ (m : List ℕ). memory_returned m r d) (puts_indicator indicator memory)
+    rw (put-nil, put-nil, puts_indicator)
 
 fetch_ranges : (indicator : Option ℕ) (r : RingState) (d : Descriptor)
     → ranges_of (fetch_writes indicator r d)
     ≡ indicator_range indicator ∷ returned_range r ∷ EMPTY_RANGE ∷ EMPTY_RANGE ∷ []
 fetch_ranges indicator r d =
-    ap₂ (λ (a b : ByteRange). a ∷ b ∷ EMPTY_RANGE ∷ EMPTY_RANGE ∷ []) (indicator_ranges indicator)
-    (ap (range_at (descriptor_address r + 2)) (length-word_bytes (returned_word d.high)))
+    rw (indicator_ranges, length-word_bytes)
 
 -- by a delivery
 abbrev put_writes : Delivery → RingState → Descriptor → List ℕ → List Write
@@ -295,32 +270,20 @@ puts_put : (d : Delivery) (r : RingState) (first : Descriptor) (text memory : Li
     ≡ memory_returned
     (memory_with_indicator (packet_put memory (text_address d.profile first) d.credits text) d.indicator) r first
 puts_put d r first text memory above =
-    let at = text_address d.profile first in let two = length-word_bytes (length text) in
-    let next : at - 2 ≡ at - 4 + length (word_bytes (length text)) = omega (arith, two) in
-    let packet = put-put_next (put memory at text) (at - 4) (word_bytes (length text)) (word_bytes d.credits)
-    (at - 2) next in
-    ap (λ (m : List ℕ). memory_returned m r first)
-    (puts_indicator d.indicator _ ∙ ap (λ (m : List ℕ). memory_with_indicator m d.indicator) (sym packet))
+    let at = text_address d.profile first in
+    let next : at - 2 ≡ at - 4 + length (word_bytes (length text)) = omega (arith, length-word_bytes (length text)) in
+    rw (
+      puts_indicator,
+      put-put_next (put memory at text) (at - 4) (word_bytes (length text)) (word_bytes d.credits)
+          (at - 2) next,
+    )
 
 put_ranges : (d : Delivery) (r : RingState) (first : Descriptor) (text : List ℕ)
     → ranges_of (put_writes d r first text)
     ≡ range_at (text_address d.profile first) (length text) ∷ range_at (text_address d.profile first - 4) 4
     ∷ indicator_range d.indicator ∷ returned_range r ∷ []
 put_ranges d r first text =
-    let at = text_address d.profile first in
-    let two = length-word_bytes (length text) in let two' = length-word_bytes d.credits in
-    let four : length (word_bytes (length text) ++ word_bytes d.credits) ≡ 4 =
-    length-append (word_bytes (length text)) (word_bytes d.credits) ∙ omega (arith, two, two') in
-    let returned : range_at (descriptor_address r + 2) (length (word_bytes (returned_word first.high)))
-    ≡ returned_range r =
-    ap (range_at (descriptor_address r + 2)) (length-word_bytes (returned_word first.high)) in
-    ap
-    (λ (a : ByteRange). range_at at (length text) ∷ a
-    ∷ range_at (indicator_write d.indicator).at (length (indicator_write d.indicator).bytes)
-    ∷ range_at (descriptor_address r + 2) (length (word_bytes (returned_word first.high))) ∷ [])
-    (ap (range_at (at - 4)) four)
-    ∙ ap₂ (λ (a b : ByteRange). range_at at (length text) ∷ range_at (at - 4) 4 ∷ a ∷ b ∷ [])
-    (indicator_ranges d.indicator) returned
+    simp (length-append, length-word_bytes, indicator_ranges)
 
 -- ---- what a turn does elsewhere
 
@@ -338,60 +301,27 @@ carried_empty : (rest : List ByteRange) (memory other : List ℕ)
 carried_empty rest memory other = ap (carried rest memory) (put_empty memory other)
 
 carried_none : (memory other : List ℕ) → carried NONE_WRITTEN memory other ≡ other
-carried_none memory other =
-    carried_empty (EMPTY_RANGE ∷ EMPTY_RANGE ∷ EMPTY_RANGE ∷ []) memory other
-    ∙ carried_empty (EMPTY_RANGE ∷ EMPTY_RANGE ∷ []) memory other
-    ∙ carried_empty (EMPTY_RANGE ∷ []) memory other ∙ carried_empty [] memory other
+carried_none memory other = simp carried_empty
 
 op_none : (j : ℕ) → op_at [] j ≡ Basic
-op_none j = ap (λ (o : Option GuestOp). option_op o) (slice_get_past [] j (omega arith))
-  where
-    option_op : Option GuestOp → GuestOp
-    option_op None = Basic
-    option_op (Some o) = o
+op_none j = grind (arith, slice_get_past)
 
 -- a command of a strict port has no additional operation
 pub as_guest : (profile : Profile) (j : ℕ) (old : ExecState) (memory : List ℕ) (r : Reply) (new : ExecState)
     (memory_after : List ℕ) → (profile ≡ Strict → old.guest_ops ≡ [])
     → ExecutesFor profile j old memory r new memory_after → ExecutesGuestAt j old memory r new memory_after
 as_guest Strict j old memory r new memory_after none x =
-    let basic : op_at old.guest_ops j ≡ Basic =
-    ap (λ (ops : List GuestOp). op_at ops j) (none refl) ∙ op_none j in
-    record {
-      command = x.executes.command;
-      taken = x.executes.taken;
-      ops_left = x.executes.ops_left;
-      executes =
-          subst
-          (λ (o : GuestOp). ExecutesAs o x.executes.command old.units memory r new.units memory_after)
-          (sym basic) (record { end = x.end; reply_is = x.reply_is; executes = x.executes.executes });
-      all_attributes_stay = x.executes.executes.all_attributes_stay;
-    }
+    let basic : op_at old.guest_ops j ≡ Basic = rw (none refl) (op_none j) in
+    let executes : ExecutesAs (op_at old.guest_ops j) x.executes.command old.units memory r new.units memory_after =
+    rw basic (search (x, x.executes)) in
+    search (x.executes, x.executes.executes, executes)
 as_guest (Compatible identity) j old memory r new memory_after none x = x
 
 -- the buffer of the pending command at an index
 buffer_is : (exec : ExecState) (j : ℕ) (c : Command) → slice_get exec.pending j ≡ Some c
     → buffer_use_at exec j ≡ Some (buffer_use (record { command = c; op = op_at exec.guest_ops j }))
 buffer_is exec j c stands =
-    ap
-    (λ (found : Option Command).
-    option_map buffer_use (option_map (λ (c : Command). as_asked c (op_at exec.guest_ops j)) found)) stands
-  where
-    as_asked : Command → GuestOp → GuestCommand
-    as_asked c op = record { command = c; op = op }
-
--- memories with the same bytes where a command looks have the same where it reads
-used_in : (memory other : List ℕ) (u : BufferUse) → length other ≡ length memory
-    → SameIn memory other (range_in memory u.start (looked_up u))
-    → part other u.start u.used ≡ part memory u.start u.used
-used_in memory other u long same = by u.used refl
-  where
-    by : (n : ℕ) → u.used ≡ n → part other u.start n ≡ part memory u.start n
-    by zero is = nothing_in memory other u.start
-    by (suc n) is =
-        let all : looked_up u ≡ suc n = omega (arith, is) in
-        part_in memory other u.start (suc n) long
-        (subst (λ (m : ℕ). SameIn memory other (range_in memory u.start m)) all same)
+    rw stands
 
 -- it reads no more than it uses
 reads_few : (op : Op) → memory_read_length op ≤ buffer_length op
@@ -404,35 +334,28 @@ reads_used SetUnit op = reads_few op
 reads_used Compare op = omega arith
 
 -- and a command that changes its buffer reads none of it
-read_in : (memory other : List ℕ) (u : BufferUse) (g : GuestCommand) → u ≡ buffer_use g → length other ≡ length memory
-    → (nat_eq u.changed 0 ≡ true → SameIn memory other (range_in memory u.start (looked_up u)))
-    → part other u.start (read_length g.op g.command.op) ≡ part memory u.start (read_length g.op g.command.op)
-read_in memory other u g is long reads = by (changed_length g.op g.command.op) refl
+read_in : (memory other : List ℕ) (g : GuestCommand) → length other ≡ length memory
+    → (nat_eq (buffer_use g).changed 0 ≡ true
+    → SameIn memory other (range_in memory (buffer_use g).start (looked_up (buffer_use g))))
+    → part other (buffer_use g).start (read_length g.op g.command.op)
+    ≡ part memory (buffer_use g).start (read_length g.op g.command.op)
+read_in memory other g long reads = by (read_length g.op g.command.op) refl
   where
-    by : (n : ℕ) → changed_length g.op g.command.op ≡ n
-        → part other u.start (read_length g.op g.command.op) ≡ part memory u.start (read_length g.op g.command.op)
-    by zero none =
-        let unchanged : u.changed ≡ 0 = ap (λ (u : BufferUse). u.changed) is ∙ none in
-        let all = used_in memory other u long (reads (eq-eqb u.changed 0 unchanged)) in
-        let used : u.used ≡ used_length g.op g.command.op = ap (λ (u : BufferUse). u.used) is in
-        let few = reads_used g.op g.command.op in
-        part_shared memory other u.start u.used u.start (read_length g.op g.command.op) long all (omega arith)
-        (omega (arith, used, few))
+    by : (n : ℕ) → read_length g.op g.command.op ≡ n
+        → part other (buffer_use g).start n ≡ part memory (buffer_use g).start n
+    by zero none = nothing_in memory other (buffer_use g).start
     by (suc n) some =
-        let none : read_length g.op g.command.op ≡ 0 = reads_none g.op g.command.op (omega (arith, some)) in
-        ap (λ (n : ℕ). part other u.start n) none ∙ nothing_in memory other u.start
-        ∙ sym (ap (λ (n : ℕ). part memory u.start n) none)
+        let u = buffer_use g in
+        let none : u.changed ≡ 0 = grind (arith, reads_none g.op g.command.op) in
+        part_shared memory other u.start (looked_up u) u.start (suc n) long
+        (part_in memory other u.start (looked_up u) long (reads (eq-eqb u.changed 0 none))) (omega arith)
+        (omega (arith, reads_used g.op g.command.op))
 
 -- the newest end message of a port is the one that was queued last
 newest_is : (port : PortState) (queued : List Reply) (r : Reply) → port.waiting ≡ queued ++ r ∷ []
     → newest_count port ≡ bytes_moved r.body
 newest_is port queued r is =
-    let size = length-append queued (r ∷ []) in
-    let last : slice_get (queued ++ r ∷ []) (length (queued ++ r ∷ []) - 1) ≡ Some r =
-    ap (slice_get (queued ++ r ∷ [])) (omega (arith, size)) ∙ slice_get-get_or (queued ++ r ∷ []) (length queued) r
-    (omega (arith, size)) ∙ ap (λ (x : Reply). Some x) (get_or-append_seam queued r [] r) in
-    ap (λ (w : List Reply). option_map_or (λ (r : Reply). bytes_moved r.body) (slice_get w (length w - 1)) 0) is
-    ∙ ap (λ (found : Option Reply). option_map_or (λ (r : Reply). bytes_moved r.body) found 0) last
+    rw (is, slice_get-last queued (length (queued ++ r ∷ []) - 1) r (omega (arith, length-append queued (r ∷ []))))
 
 below_if : (indicator : Option ℕ) (b : Bool) (base : ℕ) → IsBelow indicator base
     → IsBelow (if b then indicator else None) base
@@ -461,37 +384,6 @@ command_below port memory valid =
 has_above : (profile : Profile) (memory : List ℕ) (at n : ℕ) → HasRoom profile memory at n → 4 ≤ at
 has_above Strict memory at n h = h.packet.above
 has_above (Compatible identity) memory at n h = h.above
-
--- the ports after a fetch, a delivery and a notice, by the indicator that was set
-abbrev port_fetched : PortState → PortState → Fetched → Option ℕ → PortState
-port_fetched old new p indicator = record (port_with_message old (message_in old.profile p)) {
-  commands = new.commands;
-  credits = old.credits - 1;
-  interrupts = interrupts_after old indicator;
-  fetches = old.fetches + 1;
-  guest = flags_kept old.profile p (message_in old.profile p) old.guest;
-}
-
-abbrev port_taken : PortState → PortState → Option ℕ → PortState
-port_taken old new indicator =
-    record old { commands = new.commands; interrupts = interrupts_after old indicator }
-
-abbrev port_delivered : PortState → PortState → Option ℕ → PortState
-port_delivered old new indicator = record old {
-  responses = new.responses;
-  waiting = new.waiting;
-  polling = lacks_credit old.profile old.credits || old.polling;
-  credits = old.credits + next_grant old.deliveries;
-  interrupts = interrupts_after old indicator;
-  deliveries = old.deliveries + 1;
-}
-
-abbrev port_notified : PortState → PortState → ℕ → Option ℕ → PortState
-port_notified old new drive indicator = record old {
-  responses = new.responses;
-  interrupts = interrupts_after old indicator;
-  guest = attention_set old.guest drive false;
-}
 
 -- the settings of a delivery with this many credits
 abbrev delivery_with : PortState → ℕ → Option ℕ → Delivery
@@ -577,7 +469,7 @@ module _ (old : PortState) (memory : List ℕ) (j : ℕ) (new : PortState) (memo
   reaches_there : (other : List ℕ) → SameDescriptors old memory other → old.phase ≡ Running → Delivers old memory
       → Delivers old other
   reaches_there other s runs reaches = record {
-    nothing_to_fetch = nothing_there other s (looks old (may_fetch old) runs) reaches.nothing_to_fetch;
+    nothing_to_fetch = nothing_there other s (λ may. grind arith) reaches.nothing_to_fetch;
     nothing_pending = reaches.nothing_pending;
   }
 
@@ -585,7 +477,7 @@ module _ (old : PortState) (memory : List ℕ) (j : ℕ) (new : PortState) (memo
   module _ (packet : Fetched) (ring_after : RingState) (runs : old.phase ≡ Running) (may : may_fetch old ≡ true)
       (t : Takes (fetching_of old memory) old.commands memory packet ring_after memory_after) where
     looks_here : looks_at_commands old ≡ true
-    looks_here = looks old (may_fetch old) runs may
+    looks_here = grind arith
 
     abbrev taken_writes : List Write
     taken_writes = fetch_writes (command_indicator old memory) old.commands t.first
@@ -626,8 +518,7 @@ module _ (old : PortState) (memory : List ℕ) (j : ℕ) (new : PortState) (memo
       taken packet before.commands runs f.looks f.takes turn (λ other s t. goes other _ (record {
         looks = f.looks;
         takes = t;
-        others = f.others ∙ ap (port_taken (port_turn_on old) before)
-            (sym (command_indicator_same old memory other s (looks old (may_fetch old) runs f.looks)));
+        others = rw (command_indicator_same old memory other s (grind arith)) f.others;
       }))
 
   -- a message that was delivered, and what follows from that
@@ -645,7 +536,7 @@ module _ (old : PortState) (memory : List ℕ) (j : ℕ) (new : PortState) (memo
     put_here = put_writes delivery old.responses t.first text
 
     looks_there : looks_at_responses old ≡ true
-    looks_there = awaits old memory text runs reaches next
+    looks_there = grind arith
 
     above : 4 ≤ place
     above = has_above old.profile memory place (length text) t.room
@@ -714,9 +605,9 @@ module _ (old : PortState) (memory : List ℕ) (j : ℕ) (new : PortState) (memo
             ∙ ap (put memory start) clip);
         elsewhere = λ other s body.
             let reads : ToExecuteReads u other = subst (ExecutedReads other) is body in
-            let shared = read_in memory other u (record { command = c; op = op }) refl s.same reads in
+            let shared = read_in memory other (record { command = c; op = op }) s.same reads in
             subst (CaseIn turn other) (sym (carry other))
-            (Executes d (nothing_there other s (looks old (may_fetch old) d.runs) nothing) j refl (record {
+            (Executes d (nothing_there other s (λ may. grind arith) nothing) j refl (record {
               end = x.end;
               executes = executes_for old.profile j old.exec other x.end new.exec (left other) valid.strict (record {
                 command = c;
@@ -748,36 +639,19 @@ module _ (old : PortState) (memory : List ℕ) (j : ℕ) (new : PortState) (memo
   case_local turn (CommandRingLost d line same) =
       unwritten NoCommandRing turn (plan_outside old memory d.runs line.looks line.no_descriptor) refl refl
       same.memory_stays
-      (λ other s body. CommandRingLost d
-      (record { looks = line.looks; no_descriptor = s.command (looks old (may_fetch old) d.runs line.looks) ∙ line.no_descriptor }) (still memory other _ same))
+      (λ other s body. CommandRingLost d (search (line, s.command (grind arith) ∙ line.no_descriptor)) (still memory other _ same))
   case_local turn (Unreadable d line same) =
       let l = line.no_packet in
       let at = text_address old.profile l.next in
       unwritten (ToFetch l.next) turn (plan_fetches old memory l.next d.runs line.looks l.is_next l.owned) refl
-      (ap (written_by_fetch old memory) (not_text memory at 48 l.unreadable)) same.memory_stays
-      (λ other s body. Unreadable d (record {
-        looks = line.looks;
-        no_packet = record {
-          next = l.next;
-          is_next = s.command (looks old (may_fetch old) d.runs line.looks) ∙ l.is_next;
-          owned = l.owned;
-          unreadable = λ has. l.unreadable (text_there other memory at 48 (sym s.same) has);
-        };
-      }) (still memory other _ same))
+      (ap (written_by_fetch old memory) (fails _ _ (text_from memory at 48) l.unreadable)) same.memory_stays
+      (λ other s body.
+      let unreadable : HasText other at 48 → ⊥ = λ has. l.unreadable (text_there other memory at 48 (sym s.same) has) in
+      Unreadable d (search (line, l, unreadable, s.command (grind arith) ∙ l.is_next)) (still memory other _ same))
   case_local turn (Exceeds d before line is) =
-      rejected turn line.packet before d.runs line.taken (λ other after t. Exceeds d before (record {
-        packet = line.packet;
-        taken = t;
-        strict = line.strict;
-        no_credit = line.no_credit;
-      }) is)
+      rejected turn line.packet before d.runs line.taken (λ other after t. Exceeds d before (search (line, t)) is)
   case_local turn (BadConnection d before line is) =
-      rejected turn line.packet before d.runs line.taken (λ other after t. BadConnection d before (record {
-        packet = line.packet;
-        taken = t;
-        credit = line.credit;
-        not_sequential = line.not_sequential;
-      }) is)
+      rejected turn line.packet before d.runs line.taken (λ other after t. BadConnection d before (search (line, t)) is)
   case_local turn (Fetches d line) =
       taken line.packet new.commands d.runs line.looks line.takes turn (λ other s t. Fetches d (record {
         packet = line.packet;
@@ -788,24 +662,21 @@ module _ (old : PortState) (memory : List ℕ) (j : ℕ) (new : PortState) (memo
             (command_below old other valid) valid.place t;
         credit = line.credit;
         sequential = line.sequential;
-        others = line.others
-            ∙ ap (port_fetched (port_turn_on old) new line.packet) (sym (command_indicator_same old memory other s (looks old (may_fetch old) d.runs line.looks)));
+        others = rw (command_indicator_same old memory other s (grind arith)) line.others;
       }))
   case_local turn (Executes d nothing k is line) =
       executed_local turn d nothing
       (subst (λ (i : ℕ). ExecutesOne i idle_on memory new memory_after) is line)
   case_local turn (DeliversEnd d reaches line) =
       put_message (next_grant old.deliveries) (end_text old line.end) new.responses d.runs reaches
-      (first_text old line.end line.none_due (ap (λ (w : List Reply). slice_get w 0) line.first)) line.puts turn
+      (first_text old line.end line.none_due (rw line.first)) line.puts turn
       (λ other s t. DeliversEnd d (reaches_there other s d.runs reaches) (record {
         end = line.end;
         none_due = line.none_due;
         first = line.first;
         puts = t;
         legible = line.legible;
-        others = line.others ∙ ap (port_delivered idle_on new)
-            (sym (response_indicator_same old memory other s (awaits old memory (end_text old line.end) d.runs reaches
-            (first_text old line.end line.none_due (ap (λ (w : List Reply). slice_get w 0) line.first)))));
+        others = rw (response_indicator_same old memory other s (grind (arith, first_text))) line.others;
       }))
   case_local turn (Notifies d reaches line) =
       put_message 0 line.text new.responses d.runs reaches (attention_first old line.text line.message) line.puts turn
@@ -815,16 +686,14 @@ module _ (old : PortState) (memory : List ℕ) (j : ℕ) (new : PortState) (memo
         due = line.due;
         message = line.message;
         puts = t;
-        others = line.others ∙ ap (port_notified idle_on new line.drive)
-            (sym (response_indicator_same old memory other s (awaits old memory line.text d.runs reaches
-            (attention_first old line.text line.message))));
+        others = rw (response_indicator_same old memory other s (grind (arith, attention_first))) line.others;
       }))
   case_local turn (Waits d reaches none same) = by (plan_quiet old memory d.runs reaches none)
     where
       owns : (other : List ℕ) → SameDescriptors old memory other → NothingToDeliver old other
       owns other s = λ text next.
           let f = none text next in
-          let at = awaits old memory text d.runs reaches next in
+          let at : looks_at_responses old ≡ true = grind arith in
           record { next = f.next; is_next = s.response at ∙ f.is_next; not_owned = f.not_owned }
 
       waits : (other : List ℕ) → SameDescriptors old memory other → CaseIn turn other other
@@ -836,7 +705,7 @@ module _ (old : PortState) (memory : List ℕ) (j : ℕ) (new : PortState) (memo
   case_local turn (ResponseRingLost d reaches line same) =
       unwritten NoResponseRing turn (plan_lost old memory d.runs reaches line.text line.is_next line.no_descriptor) refl refl
       same.memory_stays (λ other s body. ResponseRingLost d (reaches_there other s d.runs reaches)
-      (record { text = line.text; is_next = line.is_next; no_descriptor = s.response (awaits old memory line.text d.runs reaches line.is_next) ∙ line.no_descriptor })
+      (record { text = line.text; is_next = line.is_next; no_descriptor = s.response (grind arith) ∙ line.no_descriptor })
       (still memory other _ same))
   case_local turn (NoRoom d reaches line same) =
       let l = line.no_room in
@@ -844,13 +713,13 @@ module _ (old : PortState) (memory : List ℕ) (j : ℕ) (new : PortState) (memo
       let at = text_address old.profile l.next in
       unwritten (ToDeliver l.next n) turn
       (plan_delivers old memory d.runs reaches line.text l.next line.is_next l.is_next l.owned) refl
-      (ap (written_by_delivery old memory (range_at at n)) (not_room old.profile memory at n l.no_room))
+      (ap (written_by_delivery old memory (range_at at n)) (fails _ _ (room_from old.profile memory at n) l.no_room))
       same.memory_stays (λ other s body. NoRoom d (reaches_there other s d.runs reaches) (record {
         text = line.text;
         is_next = line.is_next;
         no_room = record {
           next = l.next;
-          is_next = s.response (awaits old memory line.text d.runs reaches line.is_next) ∙ l.is_next;
+          is_next = s.response (grind arith) ∙ l.is_next;
           owned = l.owned;
           no_room = λ has. l.no_room
               (room_there old.profile other memory at n (sym s.same) (same_back memory other at n s.same (body refl)) has);
@@ -868,10 +737,8 @@ Looks port _ = Unit {0}
 module _ (port : PortState) where
   looks_later : (cs : List Command) (size : Option ℕ) (response : Option Descriptor)
       → (awaits_delivery cs size ≡ true → looks_at_responses port ≡ true) → Looks port (plan_later cs size response)
-  looks_later (c ∷ cs) size response at = tt
-  looks_later [] None response at = tt
-  looks_later [] (Some n) None at = tt
   looks_later [] (Some n) (Some d) at = cond_both (is_owned d) _ _ (Looks port) (λ owned. at refl) (λ _. tt)
+  looks_later _ _ response at = tt
 
   looks_by : (phase : Phase) (may : Bool) (command : Option Descriptor) (cs : List Command) (size : Option ℕ)
       (response : Option Descriptor) → (looks_in phase may ≡ true → looks_at_commands port ≡ true)
@@ -893,9 +760,7 @@ module _ (port : PortState) where
 later_same : (pending : List Command) (size : Option ℕ) (one other : Option Descriptor)
     → (awaits_delivery pending size ≡ true → other ≡ one)
     → plan_later pending size other ≡ plan_later pending size one
-later_same (c ∷ cs) size one other same = refl
-later_same [] None one other same = refl
-later_same [] (Some n) one other same = ap (plan_message n) (same refl)
+later_same pending size one other same = grind arith
 
 plan_same : (phase : Phase) (may : Bool) (pending : List Command) (size : Option ℕ)
     (command command_there response response_there : Option Descriptor)
@@ -903,11 +768,7 @@ plan_same : (phase : Phase) (may : Bool) (pending : List Command) (size : Option
     → (looks_in phase (awaits_delivery pending size) ≡ true → response_there ≡ response)
     → plan_in phase (plan_running may command_there (plan_later pending size response_there))
     ≡ plan_in phase (plan_running may command (plan_later pending size response))
-plan_same Running true pending size command command_there response response_there commands responses =
-    ap₂ plan_found (commands refl) (later_same pending size response response_there responses)
-plan_same Running false pending size command command_there response response_there commands responses =
-    later_same pending size response response_there responses
-plan_same _ may pending size command command_there response response_there commands responses = refl
+plan_same phase may pending size command command_there response response_there commands responses = grind arith
 
 plan_there : (port : PortState) (memory other : List ℕ) → SameDescriptors port memory other
     → plan_of port other ≡ plan_of port memory
@@ -921,7 +782,7 @@ fate_there missing port memory other s =
 
 module _ (port : PortState) (memory other : List ℕ) (j : ℕ) (s : SameDescriptors port memory other) where
   range_there : (at n : ℕ) → range_in other at n ≡ range_in memory at n
-  range_there at n = ap (λ (l : ℕ). record { at = at; bytes = min n (l - at) }) s.same
+  range_there at n = rw s.same
 
   command_there : (u : Option BufferUse) → (command_use other u).body ≡ (command_use memory u).body
   command_there None = refl
@@ -932,9 +793,7 @@ module _ (port : PortState) (memory other : List ℕ) (j : ℕ) (s : SameDescrip
   command_read (Some u) = refl
 
   reads_by : (p : Plan) → (use_by port other j p).reads_body ≡ (use_by port memory j p).reads_body
-  reads_by (ToFetch d) = refl
   reads_by ToExecute = command_read (buffer_use_at port.exec j)
-  reads_by (ToDeliver d n) = refl
   reads_by _ = refl
 
   body_by : (p : Plan) → (use_by port other j p).body ≡ (use_by port memory j p).body
@@ -944,15 +803,12 @@ module _ (port : PortState) (memory other : List ℕ) (j : ℕ) (s : SameDescrip
   body_by _ = refl
 
   readable_there : (at n : ℕ) → has_text other at n ≡ has_text memory at n
-  readable_there at n = ap (λ (l : ℕ). nat_eq (at % 2) 0 && (nat_le 4 at && nat_le (at + n) l)) s.same
+  readable_there at n = rw s.same
 
   room_same : (profile : Profile) (at n : ℕ) → SameIn memory other (packet_range memory at n)
       → has_room profile other at n ≡ has_room profile memory at n
   room_same Strict at n h =
-      let all = part_in memory other (at - 4) (n + 4) s.same h in
-      let word = word_shared memory other (at - 4)
-      (part_shared memory other (at - 4) (n + 4) (at - 4) 2 s.same all (omega arith) (omega arith)) in
-      ap₂ (λ (b : Bool) (w : ℕ). b && nat_le 48 w) (readable_there at 48) word
+      rw (readable_there at 48, word_there memory other (at - 4) (n + 4) (at - 4) s.same h (omega arith) (omega arith))
   room_same (Compatible identity) at n h = readable_there at n
 
   put_there : (text : ByteRange) (room : Bool) → looks_at_responses port ≡ true
@@ -1017,8 +873,6 @@ none_after : (p : Plan) (n : ℕ) → written_after p n NONE_WRITTEN ≡ NONE_WR
 none_after ToExecute n =
     let none : min 0 n ≡ 0 = omega arith in
     ap (λ (b : ℕ). record { at = 0; bytes = b } ∷ EMPTY_RANGE ∷ EMPTY_RANGE ∷ EMPTY_RANGE ∷ []) none
-none_after (ToFetch d) n = refl
-none_after (ToDeliver d m) n = refl
 none_after _ n = refl
 
 module _ (missing : Missing) (j : ℕ) (old : PortState) (memory : List ℕ) (turn : Turn) (new : PortState)
@@ -1127,7 +981,7 @@ pub delivery_none : (port : PortState) (memory : List ℕ) (text body : ByteRang
     → (HasRoom port.profile memory text.at text.bytes → ⊥)
     → record { body = body; reads_body = true; written = NONE_WRITTEN } ≡ delivery_use port memory text
 delivery_none port memory text body is never =
-    rw (is, not_room port.profile memory text.at text.bytes never) refl
+    rw (is, fails _ _ (room_from port.profile memory text.at text.bytes) never) refl
 
 pub delivery_is : (port : PortState) (memory : List ℕ) (text body : ByteRange) (size : ℕ)
     (told returned : ByteRange) → size ≡ text.bytes → body ≡ packet_range memory text.at text.bytes

@@ -1,12 +1,10 @@
 -- What a turn does, it does in each memory that agrees where the turn reads.
-use Rattle.std.proofs.Common.{◌≡◌, ℕ, zero, suc, ◌+◌, ◌-◌, ◌%◌, ◌<◌, ◌≤◌, min, Bool, true, false, List, [], ◌∷◌, length, Option, Some, None, refl, sym, ap, ap₂, subst, ◌∙◌, arith, zero-le, length-append}
-use Rattle.std.specs.Prelude.{◌&&◌, ◌||◌, ◌++◌, All, nat_eq, nat_le, option_map, slice_get, if◌then◌else◌}
-use Rattle.std.specs.Option.{option_map_or}
-use Rattle.std.proofs.Math.Seq.{get_or-append_seam}
-use Rattle.std.proofs.lemmas.Bool.{and_parts, cond_both, eq-eqb, leb-true, le-leb}
+use Rattle.std.proofs.Common.{◌≡◌, ℕ, zero, suc, ◌+◌, ◌-◌, ◌%◌, ◌<◌, ◌≤◌, min, Bool, true, false, List, [], ◌∷◌, length, Option, Some, None, refl, sym, ap, subst, ◌∙◌, arith, zero-le, length-append}
+use Rattle.std.specs.Prelude.{◌&&◌, ◌++◌, All, nat_eq, nat_le, slice_get, if◌then◌else◌}
+use Rattle.std.proofs.lemmas.Bool.{and_parts, eq-eqb, leb-true}
 use Rattle.std.proofs.lemmas.Bool.Decides.{nat_tests}
-use Rattle.std.proofs.lemmas.List.Elements.{All-nil, All-cons, All-head, All-tail}
-use Rattle.std.proofs.lemmas.Option.{slice_get_past, slice_get-get_or}
+use Rattle.std.proofs.lemmas.List.Elements.{All-from_recursion, All-cons, All-head, All-tail}
+use Rattle.std.proofs.lemmas.Option.{slice_get_past}
 use Rattle.uda_disk.proofs.Lists.{slice_get-last}
 use Rattle.uda_mem.specs.declared.range.ByteRange.{ByteRange}
 use Rattle.uda_mem.specs.Put.{put, part}
@@ -22,7 +20,6 @@ use Rattle.uda_packet.specs.declared.guest_command.GuestOp.TheVariants.{Basic, S
 use Rattle.uda_packet.specs.declared.command.Op.{Op}
 use Rattle.uda_packet.specs.declared.command.Op.TheVariants.{Read}
 use Rattle.uda_packet.specs.declared.reply.Reply.{Reply}
-use Rattle.uda_exec.specs.declared.buffer_use.BufferUse.{BufferUse}
 use Rattle.uda_exec.specs.BufferUse.{used_length, changed_length, read_length, moved_length, bytes_moved, buffer_use, buffer_use_at}
 use Rattle.uda_exec.specs.Commands.{buffer_start, buffer_length, memory_read_length}
 use Rattle.uda_exec.specs.Disks.{ExecState}
@@ -36,139 +33,31 @@ use Rattle.uda_port.specs.declared.descriptor.Descriptor.{Descriptor}
 use Rattle.uda_port.specs.declared.packet.Fetched.{Fetched}
 use Rattle.uda_port.specs.declared.phase.Phase.{Phase}
 use Rattle.uda_port.specs.declared.phase.Phase.TheVariants.{Running}
-use Rattle.uda_port.specs.declared.phase.Fatal.TheVariants as fatal
 use Rattle.uda_port.specs.declared.profile.Profile.{Profile}
 use Rattle.uda_port.specs.declared.profile.Profile.TheVariants.{Strict, Compatible}
 use Rattle.uda_port.specs.declared.turn.Turn.{Turn}
 use Rattle.uda_port.specs.declared.turn.Turn.TheVariants as did
-use Rattle.uda_port.specs.declared.memory_use.MemoryUse.{MemoryUse}
 use Rattle.uda_port.specs.declared.memory_use.Missing.{Missing}
 use Rattle.uda_port.specs.declared.turn_at.Fate.{Fate}
 use Rattle.uda_port.specs.declared.turn_at.Fate.TheVariants.{Usual, FailsInFetch, FailsLater, WithoutBuffer}
-use Rattle.uda_port.specs.Ring.{RingState, descriptor_address, descriptor_at, next_descriptor, memory_returned, returned_word}
-use Rattle.uda_port.specs.Interrupt.{ring_before, indicator_at, any_flagged, any_owned, memory_with_indicator, IsBelow, word_below, is_ring_transition}
-use Rattle.uda_port.specs.Packet.{HasText, HasPacket, IsPacketAt, DeclaresRoom, HasRoom, packet_put, text_address}
+use Rattle.uda_port.specs.Ring.{RingState, descriptor_address, next_descriptor, memory_returned, returned_word}
+use Rattle.uda_port.specs.Interrupt.{ring_before, indicator_at, memory_with_indicator, IsBelow, word_below, is_ring_transition}
+use Rattle.uda_port.specs.Packet.{HasText, HasPacket, IsPacketAt, HasRoom, packet_put, text_address}
 use Rattle.uda_port.specs.Report.{end_text, next_text}
-use Rattle.uda_port.specs.Ring.{is_owned}
-use Rattle.uda_port.specs.Guest.{attention_set}
-use Rattle.uda_port.specs.Port.{PortState, command_indicator, response_indicator, interrupts_after, next_grant, lacks_credit}
+use Rattle.uda_port.specs.Port.{PortState, command_indicator, response_indicator, next_grant}
 use Rattle.uda_port.specs.Fetch.{Takes}
 use Rattle.uda_port.specs.Delivery.{Puts}
-use Rattle.uda_port.specs.Message.{message_in, flags_kept}
 use Rattle.uda_port.specs.Events.{Delivers}
 use Rattle.uda_port.specs.declared.plan.Plan.{Plan}
 use Rattle.uda_port.specs.declared.plan.Plan.TheVariants.{AtRest, NoCommandRing, ToFetch, ToExecute, NoMessage, ToWait, NoResponseRing, ToDeliver}
-use Rattle.uda_port.specs.Plan.{plan_message, plan_later, plan_found, plan_running, plan_in, plan_of, next_size, awaits_delivery, looks_in, looks_at_commands, looks_at_responses, is_execution}
+use Rattle.uda_port.specs.Plan.{plan_of, looks_at_commands, looks_at_responses, is_execution}
 use Rattle.uda_port.specs.Plan.{Step, TurnIs, TurnCase, Rests, CommandRingLost, Unreadable, Exceeds, BadConnection, Fetches, Executes, DeliversEnd, Notifies, Waits, ResponseRingLost, NoRoom}
-use Rattle.uda_port.specs.Turn.{Unchanged, ExecutesFor, TurnEffect, TakesPacket, NothingToFetch, NothingToDeliver, ExecutesOne, may_fetch, fetching_of, port_turn_on, port_not_polling, port_with_message}
-use Rattle.uda_port.specs.MemoryUse.{looked_at, descriptor_ranges, writable_of, first_of, written_after, newest_count, packet_range, indicator_range, returned_range, NONE_WRITTEN, has_text, has_room, written_by_fetch, fetch_use, looked_up, command_use, written_by_delivery, delivery_use, use_by, use_of, fate_at, fate_in, fate_of, CanFail, EffectBy, EffectWithout, written_by_fate, written_of, Agrees, AgreesInDescriptors, IsLocal, HasValidRings}
+use Rattle.uda_port.specs.Turn.{Unchanged, ExecutesFor, TurnEffect, TakesPacket, NothingToFetch, NothingToDeliver, ExecutesOne, may_fetch, fetching_of, port_turn_on, port_not_polling}
+use Rattle.uda_port.specs.MemoryUse.{looked_at, descriptor_ranges, first_of, written_after, newest_count, packet_range, indicator_range, returned_range, NONE_WRITTEN, has_text, has_room, written_by_fetch, fetch_use, looked_up, written_by_delivery, delivery_use, use_by, use_of, fate_at, fate_in, fate_of, CanFail, EffectBy, EffectWithout, written_by_fate, written_of, Agrees, AgreesInDescriptors, IsLocal, HasValidRings}
 use Rattle.uda_port.proofs.PlanLaws.{plan_rests, plan_outside, plan_fetches, plan_executes, plan_lost, plan_delivers, IsQuiet, NoneWaits, Waiting, plan_quiet, some_executed, case_of, executed_case, case_at, turns_at}
 use Rattle.uda_port.proofs.PortSteps.{reads_no_ring, reads_no_packet, writes_no_packet}
 use Rattle.uda_port.proofs.RingLaws.{takes_first}
 use Rattle.uda_port.proofs.TurnLaws.{executes_for, attention_first, first_text}
-
--- ---- what is read
-
--- a word in a range with the same bytes
-word_there : (memory other : List ℕ) (at n k : ℕ) → length other ≡ length memory
-    → SameIn memory other (range_in memory at n) → at ≤ k → k + 2 ≤ at + n → word_at other k ≡ word_at memory k
-unfolding word_at
-word_there memory other at n k same h low high =
-    rw (part_shared memory other at n k 2 same (part_in memory other at n same h) low high)
-
--- a descriptor
-descriptor_same : (memory other : List ℕ) (at : ℕ) → length other ≡ length memory
-    → SameIn memory other (range_in memory at 4) → descriptor_at other at ≡ descriptor_at memory at
-descriptor_same memory other at same h =
-    let low = word_there memory other at 4 at same h (omega arith) (omega arith) in
-    let high = word_there memory other at 4 (at + 2) same h (omega arith) (omega arith) in
-    rw (same, low, high)
-
--- one at which the turn looks
-looked_same : (looks : Bool) (memory other : List ℕ) (r : RingState) → length other ≡ length memory
-    → SameIn memory other (looked_at looks memory r) → looks ≡ true
-    → next_descriptor other r ≡ next_descriptor memory r
-looked_same true memory other r same h looks = descriptor_same memory other _ same h
-looked_same false memory other r same h looks = absurd (cc)
-
--- the descriptors that a turn reads
-record SameDescriptors (port : PortState) (memory other : List ℕ) : Type 0 where
-  same : length other ≡ length memory
-  command : looks_at_commands port ≡ true → next_descriptor other port.commands ≡ next_descriptor memory port.commands
-  before_command : looks_at_commands port ≡ true
-      → next_descriptor other (ring_before port.commands) ≡ next_descriptor memory (ring_before port.commands)
-  response : looks_at_responses port ≡ true
-      → next_descriptor other port.responses ≡ next_descriptor memory port.responses
-  before_response : looks_at_responses port ≡ true
-      → next_descriptor other (ring_before port.responses) ≡ next_descriptor memory (ring_before port.responses)
-
-same_descriptors : (port : PortState) (memory other : List ℕ) → length other ≡ length memory
-    → All (SameIn memory other) (descriptor_ranges port memory) → SameDescriptors port memory other
-same_descriptors port memory other same h =
-    let P = SameIn memory other in
-    let commands = looks_at_commands port in
-    let responses = looks_at_responses port in
-    let a = looked_at commands memory port.commands in
-    let b = looked_at commands memory (ring_before port.commands) in
-    let c = looked_at responses memory port.responses in
-    let d = looked_at responses memory (ring_before port.responses) in
-    let h1 = All-tail P a (b ∷ c ∷ d ∷ []) h in
-    let h2 = All-tail P b (c ∷ d ∷ []) h1 in
-    let h3 = All-tail P c (d ∷ []) h2 in
-    record {
-      same = same;
-      command = looked_same commands memory other port.commands same (All-head P a (b ∷ c ∷ d ∷ []) h);
-      before_command =
-          looked_same commands memory other (ring_before port.commands) same (All-head P b (c ∷ d ∷ []) h1);
-      response = looked_same responses memory other port.responses same (All-head P c (d ∷ []) h2);
-      before_response = looked_same responses memory other (ring_before port.responses) same (All-head P d [] h3);
-    }
-
--- a running port looks where its turn says
-looks : (port : PortState) (test : Bool) → port.phase ≡ Running → test ≡ true → looks_in port.phase test ≡ true
-looks port test runs is = rw (runs, is) refl
-
-awaits : (port : PortState) (memory text : List ℕ) → port.phase ≡ Running → Delivers port memory
-    → next_text port ≡ Some text → looks_at_responses port ≡ true
-awaits port memory text runs reaches next =
-    let size : next_size port ≡ Some (length text) = ap (option_map (λ (t : List ℕ). length t)) next in
-    let waits : awaits_delivery port.exec.pending (next_size port) ≡ true = rw (reaches.nothing_pending, size) refl in
-    looks port (awaits_delivery port.exec.pending (next_size port)) runs waits
-
-indicator_same : (profile : Profile) (indicator : Option ℕ) (memory other : List ℕ) (r : RingState)
-    → next_descriptor other r ≡ next_descriptor memory r
-    → next_descriptor other (ring_before r) ≡ next_descriptor memory (ring_before r)
-    → indicator_at profile indicator other r ≡ indicator_at profile indicator memory r
-indicator_same profile indicator memory other r here before = grind arith
-
-command_indicator_same : (port : PortState) (memory other : List ℕ) → SameDescriptors port memory other
-    → looks_at_commands port ≡ true → command_indicator port other ≡ command_indicator port memory
-command_indicator_same port memory other s at =
-    indicator_same port.profile (word_below port.responses.base 4) memory other port.commands (s.command at)
-    (s.before_command at)
-
-response_indicator_same : (port : PortState) (memory other : List ℕ) → SameDescriptors port memory other
-    → looks_at_responses port ≡ true → response_indicator port other ≡ response_indicator port memory
-response_indicator_same port memory other s at =
-    indicator_same port.profile (word_below port.responses.base 2) memory other port.responses (s.response at)
-    (s.before_response at)
-
--- a packet
-text_there : (memory other : List ℕ) (at n : ℕ) → length other ≡ length memory → HasText memory at n
-    → HasText other at n
-text_there memory other at n same h = search arith
-
-packet_there : (memory other : List ℕ) (at : ℕ) (p : Fetched) → length other ≡ length memory
-    → HasPacket memory at → SameIn memory other (packet_range memory at 48) → IsPacketAt memory at p
-    → IsPacketAt other at p
-packet_there memory other at p same has h is =
-    let above = has.above in
-    record {
-      first_word = is.first_word ∙ sym (word_there memory other (at - 4) 52 (at - 4) same h (omega arith) (omega arith));
-      second_word = is.second_word ∙ sym (word_there memory other (at - 4) 52 (at - 2) same h (omega arith) (omega arith));
-      text = is.text ∙ sym (part_shared memory other (at - 4) 52 at 48 same
-          (part_in memory other (at - 4) 52 same h) (omega arith) (omega arith));
-    }
 
 -- ---- room
 
@@ -178,17 +67,16 @@ text_true memory at n h = grind (arith, nat_tests)
 text_from : (memory : List ℕ) (at n : ℕ) → has_text memory at n ≡ true → HasText memory at n
 text_from memory at n h = search (arith, and_parts, nat_tests)
 
--- a test that holds exactly if this does
-decides : (P : Type 0) (a b : Bool) → (P → a ≡ true) → (a ≡ true → P) → (b ≡ true → P) → (P → b ≡ true) → b ≡ a
-decides P a b to from has is = grind arith
+pub text_iff : (memory : List ℕ) (at n : ℕ) (b : Bool) → (b ≡ true → HasText memory at n)
+    → (HasText memory at n → b ≡ true) → b ≡ has_text memory at n
+text_iff memory at n b has is = decides (HasText memory at n) _ (text_true memory at n) (text_from memory at n) has is
+  where
+    decides : (P : Type 0) (a : Bool) → (P → a ≡ true) → (a ≡ true → P) → (b ≡ true → P) → (P → b ≡ true) → b ≡ a
+    decides P a to from has is = grind arith
 
 -- a test that doesn't hold
 fails : (P : Type 0) (a : Bool) → (a ≡ true → P) → (P → ⊥) → a ≡ false
 fails P a from never = grind arith
-
-pub text_iff : (memory : List ℕ) (at n : ℕ) (b : Bool) → (b ≡ true → HasText memory at n)
-    → (HasText memory at n → b ≡ true) → b ≡ has_text memory at n
-text_iff memory at n b = decides (HasText memory at n) _ b (text_true memory at n) (text_from memory at n)
 
 room_true : (profile : Profile) (memory : List ℕ) (at n : ℕ) → HasRoom profile memory at n
     → has_room profile memory at n ≡ true
@@ -201,18 +89,74 @@ room_from Strict memory at n h =
     record { packet = text_from memory at 48 both.0; long = leb-true _ _ both.1 }
 room_from (Compatible identity) memory at n h = text_from memory at n h
 
-room_there : (profile : Profile) (memory other : List ℕ) (at n : ℕ) → length other ≡ length memory
-    → SameIn memory other (packet_range memory at n) → HasRoom profile memory at n
-    → HasRoom profile other at n
-room_there Strict memory other at n same h room =
-    let word = word_there memory other (at - 4) (n + 4) (at - 4) same h (omega arith) (omega arith) in
-    record { packet = text_there memory other at 48 same room.packet; long = rw word room.long }
-room_there (Compatible identity) memory other at n same h room = text_there memory other at n same room
+-- ---- what is read
 
--- the same from the other memory
-same_back : (memory other : List ℕ) (at n : ℕ) → length other ≡ length memory
-    → SameIn memory other (packet_range memory at n) → SameIn other memory (packet_range other at n)
-same_back memory other at n same h = rw same (sym h)
+-- another memory of the same length
+module _ (memory other : List ℕ) (same : length other ≡ length memory) where
+  -- a word in a range with the same bytes
+  word_there : (at n k : ℕ) → SameIn memory other (range_in memory at n) → at ≤ k → k + 2 ≤ at + n
+      → word_at other k ≡ word_at memory k
+  unfolding word_at
+  word_there at n k h low high = rw (part_shared memory other at n k 2 same (part_in memory other at n same h) low high)
+
+  -- a descriptor at which the turn looks
+  looked_same : (looks : Bool) (r : RingState) → SameIn memory other (looked_at looks memory r) → looks ≡ true
+      → next_descriptor other r ≡ next_descriptor memory r
+  looked_same true r h looks =
+      let at = descriptor_address r in
+      rw (same, word_there at 4 at h (omega arith) (omega arith), word_there at 4 (at + 2) h (omega arith) (omega arith))
+  looked_same false r h looks = absurd (cc)
+
+  -- a packet
+  text_there : (at n : ℕ) → HasText memory at n → HasText other at n
+  text_there at n h = search arith
+
+  packet_there : (at : ℕ) (p : Fetched) → HasPacket memory at → SameIn memory other (packet_range memory at 48)
+      → IsPacketAt memory at p → IsPacketAt other at p
+  packet_there at p has h is =
+      let above = has.above in
+      record {
+        first_word = is.first_word ∙ sym (word_there (at - 4) 52 (at - 4) h (omega arith) (omega arith));
+        second_word = is.second_word ∙ sym (word_there (at - 4) 52 (at - 2) h (omega arith) (omega arith));
+        text = is.text ∙ sym (part_shared memory other (at - 4) 52 at 48 same
+            (part_in memory other (at - 4) 52 same h) (omega arith) (omega arith));
+      }
+
+  room_there : (profile : Profile) (at n : ℕ) → SameIn memory other (packet_range memory at n)
+      → has_room profile other at n ≡ has_room profile memory at n
+  room_there Strict at n h = rw (same, word_there (at - 4) (n + 4) (at - 4) h (omega arith) (omega arith))
+  room_there (Compatible identity) at n h = rw same
+
+-- the descriptors that a turn reads, and the interrupt indicators that they decide
+record SameDescriptors (port : PortState) (memory other : List ℕ) : Type 0 where
+  same : length other ≡ length memory
+  command : looks_at_commands port ≡ true → next_descriptor other port.commands ≡ next_descriptor memory port.commands
+  told : looks_at_commands port ≡ true → command_indicator port other ≡ command_indicator port memory
+  response : looks_at_responses port ≡ true
+      → next_descriptor other port.responses ≡ next_descriptor memory port.responses
+  answered : looks_at_responses port ≡ true → response_indicator port other ≡ response_indicator port memory
+
+indicator_same : (profile : Profile) (indicator : Option ℕ) (memory other : List ℕ) (r : RingState)
+    → next_descriptor other r ≡ next_descriptor memory r
+    → next_descriptor other (ring_before r) ≡ next_descriptor memory (ring_before r)
+    → indicator_at profile indicator other r ≡ indicator_at profile indicator memory r
+indicator_same profile indicator memory other r here before = grind arith
+
+same_descriptors : (port : PortState) (memory other : List ℕ) → length other ≡ length memory
+    → All (SameIn memory other) (descriptor_ranges port memory) → SameDescriptors port memory other
+same_descriptors port memory other same h =
+    let looked = looked_same memory other same in
+    let command = looked (looks_at_commands port) port.commands (h 0 EMPTY_RANGE (omega arith)) in
+    let before = looked (looks_at_commands port) (ring_before port.commands) (h 1 EMPTY_RANGE (omega arith)) in
+    let response = looked (looks_at_responses port) port.responses (h 2 EMPTY_RANGE (omega arith)) in
+    let first = looked (looks_at_responses port) (ring_before port.responses) (h 3 EMPTY_RANGE (omega arith)) in
+    record {
+      same = same;
+      command = command;
+      told = λ at. indicator_same _ _ memory other port.commands (command at) (before at);
+      response = response;
+      answered = λ at. indicator_same _ _ memory other port.responses (response at) (first at);
+    }
 
 -- ---- what is written
 
@@ -247,8 +191,7 @@ fetch_writes indicator r d = indicator_write indicator ∷ returned_write r d �
 
 puts_fetch : (indicator : Option ℕ) (r : RingState) (d : Descriptor) (memory : List ℕ)
     → puts (fetch_writes indicator r d) memory ≡ memory_returned (memory_with_indicator memory indicator) r d
-puts_fetch indicator r d memory =
-    rw (put-nil, put-nil, puts_indicator)
+puts_fetch indicator r d memory = simp (put-nil, puts_indicator)
 
 fetch_ranges : (indicator : Option ℕ) (r : RingState) (d : Descriptor)
     → ranges_of (fetch_writes indicator r d)
@@ -291,17 +234,13 @@ nothing_in : (memory other : List ℕ) (at : ℕ) → part other at 0 ≡ part m
 unfolding part
 nothing_in memory other at = refl
 
+-- an empty range carries nothing
 put_empty : (memory other : List ℕ) → put other 0 (part memory 0 0) ≡ other
 unfolding part
 put_empty memory other = put-nil other 0
 
--- an empty range carries nothing
-carried_empty : (rest : List ByteRange) (memory other : List ℕ)
-    → carried (EMPTY_RANGE ∷ rest) memory other ≡ carried rest memory other
-carried_empty rest memory other = ap (carried rest memory) (put_empty memory other)
-
 carried_none : (memory other : List ℕ) → carried NONE_WRITTEN memory other ≡ other
-carried_none memory other = simp carried_empty
+carried_none memory other = simp put_empty
 
 op_none : (j : ℕ) → op_at [] j ≡ Basic
 op_none j = grind (arith, slice_get_past)
@@ -382,8 +321,7 @@ command_below port memory valid =
     (below_word port.responses.base port.commands.base valid.even valid.ordered)
 
 has_above : (profile : Profile) (memory : List ℕ) (at n : ℕ) → HasRoom profile memory at n → 4 ≤ at
-has_above Strict memory at n h = h.packet.above
-has_above (Compatible identity) memory at n h = h.above
+has_above profile memory at n h = grind arith
 
 -- the settings of a delivery with this many credits
 abbrev delivery_with : PortState → ℕ → Option ℕ → Delivery
@@ -392,8 +330,7 @@ delivery_with port credits indicator =
 
 -- only an executed command wrote less than it may
 all_written : (p : Plan) → is_execution p ≡ false → (n : ℕ) (ranges : List ByteRange) → written_after p n ranges ≡ ranges
-all_written ToExecute is n ranges = absurd (cc)
-all_written _ is n ranges = refl
+all_written p is n ranges = grind arith
 
 -- one turn: the port before and after it, its memory, and the command at index j
 module _ (old : PortState) (memory : List ℕ) (j : ℕ) (new : PortState) (memory_after : List ℕ)
@@ -421,40 +358,33 @@ module _ (old : PortState) (memory : List ℕ) (j : ℕ) (new : PortState) (memo
     elsewhere : (other : List ℕ) → SameDescriptors old memory other → SameBody p other
         → CaseIn turn other (carried (wrote p) memory_after other)
 
-  -- a plan that executes nothing: all that it may write, it wrote
-  by_carry : (p : Plan) (turn : Turn) (left : List ℕ → List ℕ) → plan_of old memory ≡ p → is_execution p ≡ false
-      → memory_after ≡ left memory
-      → ((other : List ℕ) → length other ≡ length memory
-      → carried (use_by old memory j p).written memory_after other ≡ left other)
+  by_carry : (p : Plan) (turn : Turn) (left : List ℕ → List ℕ) → plan_of old memory ≡ p
+      → memory_after ≡ carried (use_by old memory j p).written memory_after memory
+      → ((other : List ℕ) → length other ≡ length memory → carried (wrote p) memory_after other ≡ left other)
       → ((other : List ℕ) → SameDescriptors old memory other → SameBody p other → CaseIn turn other (left other))
       → Local (plan_of old memory) turn
-  by_carry p turn left plan other_plan is carry goes =
-      subst (λ (q : Plan). Local q turn) (sym plan) (record {
-        only = is ∙ sym (carry memory refl);
-        elsewhere = λ other s body.
-            subst (CaseIn turn other)
-            (sym (ap (λ (rs : List ByteRange). carried rs memory_after other)
-            (all_written p other_plan (newest_count new) (use_by old memory j p).written) ∙ carry other s.same))
-            (goes other s body);
-      })
+  by_carry p turn left plan only carry goes =
+      rw plan (record { only = only; elsewhere = λ other s body. rw (carry other s.same) (goes other s body) })
 
+  -- a plan that executes nothing: all that it may write, it wrote
   by_writes : (p : Plan) (turn : Turn) (ws : List Write) → plan_of old memory ≡ p → is_execution p ≡ false
       → memory_after ≡ puts ws memory → ranges_of ws ≡ (use_by old memory j p).written
       → ((other : List ℕ) → SameDescriptors old memory other → SameBody p other → CaseIn turn other (puts ws other))
       → Local (plan_of old memory) turn
   by_writes p turn ws plan other_plan is ranges goes =
-      by_carry p turn (puts ws) plan other_plan is
-      (λ other same. ap₂ (λ (rs : List ByteRange) (m : List ℕ). carried rs m other) (sym ranges) is
-      ∙ carried_puts ws memory other same) goes
+      let carry : (other : List ℕ) → length other ≡ length memory
+      → carried (use_by old memory j p).written memory_after other ≡ puts ws other =
+      λ other same. rw (← ranges, is) (carried_puts ws memory other same) in
+      by_carry p turn (puts ws) plan (is ∙ sym (carry memory refl))
+      (λ other same. rw (all_written p other_plan) (carry other same)) goes
 
   unwritten : (p : Plan) (turn : Turn) → plan_of old memory ≡ p → is_execution p ≡ false
       → (use_by old memory j p).written ≡ NONE_WRITTEN → memory_after ≡ memory
       → ((other : List ℕ) → SameDescriptors old memory other → SameBody p other → CaseIn turn other other)
       → Local (plan_of old memory) turn
   unwritten p turn plan other_plan none stays goes =
-      by_carry p turn (λ other. other) plan other_plan stays
-      (λ other same. ap (λ (rs : List ByteRange). carried rs memory_after other) none ∙ carried_none memory_after other)
-      goes
+      by_writes p turn (no_write ∷ no_write ∷ no_write ∷ no_write ∷ []) plan other_plan (simp put-nil stays) (sym none)
+      (λ other s body. simp put-nil (goes other s body))
 
   still : (before other : List ℕ) (port : PortState) → Unchanged port before new memory_after
       → Unchanged port other new other
@@ -490,12 +420,12 @@ module _ (old : PortState) (memory : List ℕ) (j : ℕ) (new : PortState) (memo
         let fetching : Option ℕ → Fetching = λ i. record { profile = old.profile; indicator = i } in
         subst
         (λ (i : Option ℕ). Takes (fetching i) old.commands other packet ring_after (puts taken_writes other))
-        (sym (command_indicator_same old memory other s looks_here)) (record {
+        (sym (s.told looks_here)) (record {
           first = t.first;
           is_next = s.command looks_here ∙ t.is_next;
           owned = t.owned;
-          readable = text_there memory other at 48 s.same t.readable;
-          is_packet = packet_there memory other at packet s.same t.readable body t.is_packet;
+          readable = text_there memory other s.same at 48 t.readable;
+          is_packet = packet_there memory other s.same at packet t.readable body t.is_packet;
           written = puts_fetch (command_indicator old memory) old.commands t.first other;
           advanced = t.advanced;
         })
@@ -518,7 +448,7 @@ module _ (old : PortState) (memory : List ℕ) (j : ℕ) (new : PortState) (memo
       taken packet before.commands runs f.looks f.takes turn (λ other s t. goes other _ (record {
         looks = f.looks;
         takes = t;
-        others = rw (command_indicator_same old memory other s (grind arith)) f.others;
+        others = rw (s.told (grind arith)) f.others;
       }))
 
   -- a message that was delivered, and what follows from that
@@ -548,11 +478,12 @@ module _ (old : PortState) (memory : List ℕ) (j : ℕ) (new : PortState) (memo
     puts_there other s body =
         subst
         (λ (i : Option ℕ). Puts (delivery_with old credits i) old.responses other text ring_after
-        (puts put_here other)) (sym (response_indicator_same old memory other s looks_there)) (record {
+        (puts put_here other)) (sym (s.answered looks_there)) (record {
           first = t.first;
           is_next = s.response looks_there ∙ t.is_next;
           owned = t.owned;
-          room = room_there old.profile memory other place (length text) s.same body t.room;
+          room = room_from old.profile other place (length text)
+              (room_there memory other s.same old.profile place (length text) body ∙ room_true _ _ _ _ t.room);
           written = puts_put delivery old.responses t.first text other above;
           advanced = t.advanced;
         })
@@ -576,59 +507,27 @@ module _ (old : PortState) (memory : List ℕ) (j : ℕ) (new : PortState) (memo
       let c = g.command in
       let op = op_at old.exec.guest_ops j in
       let start = buffer_start c.op in
-      let n = changed_length op c.op in
       let m = moved_length op c.op x.end in
-      let u = buffer_use (record { command = c; op = op }) in
       let is = buffer_is old.exec j c g.taken.stands in
       let changes = changes_as op c old.exec.units new.exec.units memory memory_after x.end g.executes in
-      let long : length memory_after ≡ length memory = length-changes memory memory_after start n changes in
-      let clip : part memory_after start (min n (length memory - start)) ≡ part memory_after start n =
-      ap (λ l. part memory_after start (min n (l - start))) (sym long) ∙ part_clipped memory_after start n in
-      let left : List ℕ → List ℕ = λ other. put other start (part memory_after start m) in
-      let newest : newest_count new ≡ bytes_moved x.end.body = newest_is new old.waiting x.end (ap waiting_of x.others) in
-      let few : min (min n (length memory - start)) (newest_count new) ≡ min m (length memory - start) =
-      omega (arith, newest) in
-      let clip' : part memory_after start (min m (length memory - start)) ≡ part memory_after start m =
-      ap (λ l. part memory_after start (min m (l - start))) (sym long) ∙ part_clipped memory_after start m in
-      let empty : (other : List ℕ) → carried (EMPTY_RANGE ∷ EMPTY_RANGE ∷ EMPTY_RANGE ∷ []) memory_after other ≡ other =
-      λ other. carried_empty (EMPTY_RANGE ∷ EMPTY_RANGE ∷ []) memory_after other
-      ∙ carried_empty (EMPTY_RANGE ∷ []) memory_after other ∙ carried_empty [] memory_after other in
-      let carry : (other : List ℕ) → carried (wrote ToExecute) memory_after other ≡ left other = λ other.
-      ap (λ (b : Option BufferUse). carried (written_after ToExecute (newest_count new) (command_use memory b).written)
-      memory_after other) is
-      ∙ empty (put other start (part memory_after start (min (min n (length memory - start)) (newest_count new))))
-      ∙ ap (λ (k : ℕ). put other start (part memory_after start k)) few ∙ ap (put other start) clip' in
-      subst (λ (q : Plan). Local q turn)
-      (sym (plan_executes old memory d.runs nothing (some_executed idle_on memory j new memory_after x))) (record {
-        only = changes ∙ sym (ap (λ (b : Option BufferUse). carried (command_use memory b).written memory_after memory) is
-            ∙ empty (put memory start (part memory_after start (min n (length memory - start))))
-            ∙ ap (put memory start) clip);
-        elsewhere = λ other s body.
-            let reads : ToExecuteReads u other = subst (ExecutedReads other) is body in
-            let shared = read_in memory other (record { command = c; op = op }) s.same reads in
-            subst (CaseIn turn other) (sym (carry other))
-            (Executes d (nothing_there other s (λ may. grind arith) nothing) j refl (record {
-              end = x.end;
-              executes = executes_for old.profile j old.exec other x.end new.exec (left other) valid.strict (record {
-                command = c;
-                taken = g.taken;
-                ops_left = g.ops_left;
-                executes = executes_as_elsewhere op c old.exec.units new.exec.units memory other memory_after x.end s.same
-                    shared g.executes;
-                all_attributes_stay = g.all_attributes_stay;
-              });
-              others = x.others;
-            }));
-      })
-    where
-      ExecutedReads : List ℕ → Option BufferUse → Type 0
-      ExecutedReads other b = (command_use memory b).reads_body ≡ true → SameIn memory other (command_use memory b).body
-
-      ToExecuteReads : BufferUse → List ℕ → Type 0
-      ToExecuteReads u other = ExecutedReads other (Some u)
-
-      waiting_of : PortState → List Reply
-      waiting_of p = p.waiting
+      let long : length memory_after ≡ length memory = length-changes memory memory_after start _ changes in
+      let clipped : (n : ℕ) → part memory_after start (min n (length memory - start)) ≡ part memory_after start n =
+      λ n. rw (← long) (part_clipped memory_after start n) in
+      let newest : newest_count new ≡ bytes_moved x.end.body = newest_is new old.waiting x.end (rw x.others) in
+      let few : min (min (changed_length op c.op) (length memory - start)) (newest_count new)
+      ≡ min m (length memory - start) = omega (arith, newest) in
+      by_carry ToExecute turn (λ other. put other start (part memory_after start m))
+      (plan_executes old memory d.runs nothing (some_executed idle_on memory j new memory_after x))
+      (rw is (simp (put_empty, clipped) changes)) (λ other same. rw is (simp (put_empty, few, clipped)))
+      (λ other s body.
+      let shared = read_in memory other (record { command = c; op = op }) s.same (rw is at body) in
+      let executes = executes_as_elsewhere op c old.exec.units new.exec.units memory other memory_after x.end s.same shared
+      g.executes in
+      Executes d (nothing_there other s (λ may. grind arith) nothing) j refl (record {
+        end = x.end;
+        executes = executes_for old.profile j old.exec other x.end new.exec _ valid.strict (search (g, executes));
+        others = x.others;
+      }))
 
   -- ---- a turn
 
@@ -646,7 +545,7 @@ module _ (old : PortState) (memory : List ℕ) (j : ℕ) (new : PortState) (memo
       unwritten (ToFetch l.next) turn (plan_fetches old memory l.next d.runs line.looks l.is_next l.owned) refl
       (ap (written_by_fetch old memory) (fails _ _ (text_from memory at 48) l.unreadable)) same.memory_stays
       (λ other s body.
-      let unreadable : HasText other at 48 → ⊥ = λ has. l.unreadable (text_there other memory at 48 (sym s.same) has) in
+      let unreadable : HasText other at 48 → ⊥ = λ has. l.unreadable (text_there other memory (sym s.same) at 48 has) in
       Unreadable d (search (line, l, unreadable, s.command (grind arith) ∙ l.is_next)) (still memory other _ same))
   case_local turn (Exceeds d before line is) =
       rejected turn line.packet before d.runs line.taken (λ other after t. Exceeds d before (search (line, t)) is)
@@ -662,7 +561,7 @@ module _ (old : PortState) (memory : List ℕ) (j : ℕ) (new : PortState) (memo
             (command_below old other valid) valid.place t;
         credit = line.credit;
         sequential = line.sequential;
-        others = rw (command_indicator_same old memory other s (grind arith)) line.others;
+        others = rw (s.told (grind arith)) line.others;
       }))
   case_local turn (Executes d nothing k is line) =
       executed_local turn d nothing
@@ -676,7 +575,7 @@ module _ (old : PortState) (memory : List ℕ) (j : ℕ) (new : PortState) (memo
         first = line.first;
         puts = t;
         legible = line.legible;
-        others = rw (response_indicator_same old memory other s (grind (arith, first_text))) line.others;
+        others = rw (s.answered (grind (arith, first_text))) line.others;
       }))
   case_local turn (Notifies d reaches line) =
       put_message 0 line.text new.responses d.runs reaches (attention_first old line.text line.message) line.puts turn
@@ -686,7 +585,7 @@ module _ (old : PortState) (memory : List ℕ) (j : ℕ) (new : PortState) (memo
         due = line.due;
         message = line.message;
         puts = t;
-        others = rw (response_indicator_same old memory other s (grind (arith, attention_first))) line.others;
+        others = rw (s.answered (grind (arith, attention_first))) line.others;
       }))
   case_local turn (Waits d reaches none same) = by (plan_quiet old memory d.runs reaches none)
     where
@@ -722,158 +621,68 @@ module _ (old : PortState) (memory : List ℕ) (j : ℕ) (new : PortState) (memo
           is_next = s.response (grind arith) ∙ l.is_next;
           owned = l.owned;
           no_room = λ has. l.no_room
-              (room_there old.profile other memory at n (sym s.same) (same_back memory other at n s.same (body refl)) has);
+              (room_from _ _ _ _ (sym (room_there memory other s.same old.profile at n (body refl)) ∙ room_true _ _ _ _ has));
         };
       }) (still memory other _ same))
 
 -- ---- the plan elsewhere
 
--- a plan to fetch looks at the command ring, and one to deliver at the response ring
-abbrev Looks : PortState → Plan → Type 0
-Looks port (ToFetch d) = looks_at_commands port ≡ true
-Looks port (ToDeliver d n) = looks_at_responses port ≡ true
-Looks port _ = Unit {0}
-
-module _ (port : PortState) where
-  looks_later : (cs : List Command) (size : Option ℕ) (response : Option Descriptor)
-      → (awaits_delivery cs size ≡ true → looks_at_responses port ≡ true) → Looks port (plan_later cs size response)
-  looks_later [] (Some n) (Some d) at = cond_both (is_owned d) _ _ (Looks port) (λ owned. at refl) (λ _. tt)
-  looks_later _ _ response at = tt
-
-  looks_by : (phase : Phase) (may : Bool) (command : Option Descriptor) (cs : List Command) (size : Option ℕ)
-      (response : Option Descriptor) → (looks_in phase may ≡ true → looks_at_commands port ≡ true)
-      → (looks_in phase (awaits_delivery cs size) ≡ true → looks_at_responses port ≡ true)
-      → Looks port (plan_in phase (plan_running may command (plan_later cs size response)))
-  looks_by Running true None cs size response commands responses = tt
-  looks_by Running true (Some d) cs size response commands responses =
-      cond_both (is_owned d) _ _ (Looks port) (λ owned. commands refl)
-      (λ _. looks_later cs size response responses)
-  looks_by Running false command cs size response commands responses = looks_later cs size response responses
-  looks_by _ may command cs size response commands responses = tt
-
-  looks_of : (memory : List ℕ) → Looks port (plan_of port memory)
-  looks_of memory =
-      looks_by port.phase (may_fetch port) (next_descriptor memory port.commands) port.exec.pending (next_size port)
-      (next_descriptor memory port.responses) (λ is. is) (λ is. is)
-
--- it is the same in another memory that agrees in the descriptors
-later_same : (pending : List Command) (size : Option ℕ) (one other : Option Descriptor)
-    → (awaits_delivery pending size ≡ true → other ≡ one)
-    → plan_later pending size other ≡ plan_later pending size one
-later_same pending size one other same = grind arith
-
-plan_same : (phase : Phase) (may : Bool) (pending : List Command) (size : Option ℕ)
-    (command command_there response response_there : Option Descriptor)
-    → (looks_in phase may ≡ true → command_there ≡ command)
-    → (looks_in phase (awaits_delivery pending size) ≡ true → response_there ≡ response)
-    → plan_in phase (plan_running may command_there (plan_later pending size response_there))
-    ≡ plan_in phase (plan_running may command (plan_later pending size response))
-plan_same phase may pending size command command_there response response_there commands responses = grind arith
+fetch_looks : (port : PortState) (memory : List ℕ) (d : Descriptor) → plan_of port memory ≡ ToFetch d
+    → looks_at_commands port ≡ true
+fetch_looks port memory d is = grind arith
 
 plan_there : (port : PortState) (memory other : List ℕ) → SameDescriptors port memory other
     → plan_of port other ≡ plan_of port memory
-plan_there port memory other s =
-    plan_same port.phase (may_fetch port) port.exec.pending (next_size port) _ _ _ _ s.command s.response
+plan_there port memory other s = grind (arith, s.command, s.response)
 
 fate_there : (missing : Missing) (port : PortState) (memory other : List ℕ)
     → SameDescriptors port memory other → fate_of missing port other ≡ fate_of missing port memory
-fate_there missing port memory other s =
-    ap (fate_in port.phase missing (may_fetch port)) (plan_there port memory other s)
+fate_there missing port memory other s = rw (plan_there port memory other s)
 
 module _ (port : PortState) (memory other : List ℕ) (j : ℕ) (s : SameDescriptors port memory other) where
-  range_there : (at n : ℕ) → range_in other at n ≡ range_in memory at n
-  range_there at n = rw s.same
-
-  command_there : (u : Option BufferUse) → (command_use other u).body ≡ (command_use memory u).body
-  command_there None = refl
-  command_there (Some u) = range_there u.start (looked_up u)
-
-  command_read : (u : Option BufferUse) → (command_use other u).reads_body ≡ (command_use memory u).reads_body
-  command_read None = refl
-  command_read (Some u) = refl
-
   reads_by : (p : Plan) → (use_by port other j p).reads_body ≡ (use_by port memory j p).reads_body
-  reads_by ToExecute = command_read (buffer_use_at port.exec j)
-  reads_by _ = refl
+  reads_by p = grind arith
 
   body_by : (p : Plan) → (use_by port other j p).body ≡ (use_by port memory j p).body
-  body_by (ToFetch d) = range_there (text_address port.profile d - 4) 52
-  body_by ToExecute = command_there (buffer_use_at port.exec j)
-  body_by (ToDeliver d n) = range_there (text_address port.profile d - 4) (n + 4)
-  body_by _ = refl
+  body_by p = grind (arith, s.same)
 
-  readable_there : (at n : ℕ) → has_text other at n ≡ has_text memory at n
-  readable_there at n = rw s.same
-
-  room_same : (profile : Profile) (at n : ℕ) → SameIn memory other (packet_range memory at n)
-      → has_room profile other at n ≡ has_room profile memory at n
-  room_same Strict at n h =
-      rw (readable_there at 48, word_there memory other (at - 4) (n + 4) (at - 4) s.same h (omega arith) (omega arith))
-  room_same (Compatible identity) at n h = readable_there at n
-
-  put_there : (text : ByteRange) (room : Bool) → looks_at_responses port ≡ true
-      → written_by_delivery port other text room ≡ written_by_delivery port memory text room
-  put_there text false at = refl
-  put_there text true at =
-      ap (λ (indicator : Option ℕ). text ∷ record { at = text.at - 4; bytes = 4 } ∷ indicator_range indicator
-      ∷ returned_range port.responses ∷ []) (response_indicator_same port memory other s at)
-
-  taken_there : (readable : Bool) → looks_at_commands port ≡ true
-      → written_by_fetch port other readable ≡ written_by_fetch port memory readable
-  taken_there false at = refl
-  taken_there true at =
-      ap (λ (indicator : Option ℕ). indicator_range indicator ∷ returned_range port.commands ∷ EMPTY_RANGE
-      ∷ EMPTY_RANGE ∷ []) (command_indicator_same port memory other s at)
-
-  command_written : (u : Option BufferUse) → (command_use other u).written ≡ (command_use memory u).written
-  command_written None = refl
-  command_written (Some u) =
-      ap (λ (r : ByteRange). r ∷ EMPTY_RANGE ∷ EMPTY_RANGE ∷ EMPTY_RANGE ∷ []) (range_there u.start u.changed)
-
-  written_by_plan : (p : Plan) → Looks port p
+  written_by_plan : (p : Plan) → plan_of port memory ≡ p
       → ((use_by port memory j p).reads_body ≡ true → SameIn memory other (use_by port memory j p).body)
       → (use_by port other j p).written ≡ (use_by port memory j p).written
-  written_by_plan (ToFetch d) at h =
-      let place = text_address port.profile d in
-      ap (written_by_fetch port other) (readable_there place 48) ∙ taken_there (has_text memory place 48) at
-  written_by_plan ToExecute at h = command_written (buffer_use_at port.exec j)
-  written_by_plan (ToDeliver d n) at h =
-      let place = text_address port.profile d in
-      ap (written_by_delivery port other (range_at place n)) (room_same port.profile place n (h refl))
-      ∙ put_there (range_at place n) (has_room port.profile memory place n) at
-  written_by_plan _ at h = refl
+  written_by_plan (ToFetch d) is h =
+      rw s.same (fetched (has_text memory (text_address port.profile d) 48) (s.told (fetch_looks port memory d is)))
+    where
+      fetched : (readable : Bool) → command_indicator port other ≡ command_indicator port memory
+          → written_by_fetch port other readable ≡ written_by_fetch port memory readable
+      fetched readable told = grind arith
+  written_by_plan ToExecute is h = grind (arith, s.same)
+  written_by_plan (ToDeliver d n) is h =
+      let looks : looks_at_responses port ≡ true = grind arith in
+      rw (room_there memory other s.same port.profile (text_address port.profile d) n (h refl)) (grind (arith, s.answered looks))
+  written_by_plan _ is h = refl
 
 pub body_there : (port : PortState) (memory other : List ℕ) (j : ℕ) → AgreesInDescriptors port memory other
     → (use_of port other j).body ≡ (use_of port memory j).body
 body_there port memory other j agrees =
     let s = same_descriptors port memory other agrees.same_length agrees.same_descriptors in
-    ap (λ (p : Plan). (use_by port other j p).body) (plan_there port memory other s)
-    ∙ body_by port memory other j s (plan_of port memory)
+    rw (plan_there port memory other s) (body_by port memory other j s (plan_of port memory))
 
 pub reads_there : (port : PortState) (memory other : List ℕ) (j : ℕ) → AgreesInDescriptors port memory other
     → (use_of port other j).reads_body ≡ (use_of port memory j).reads_body
 reads_there port memory other j agrees =
     let s = same_descriptors port memory other agrees.same_length agrees.same_descriptors in
-    ap (λ (p : Plan). (use_by port other j p).reads_body) (plan_there port memory other s)
-    ∙ reads_by port memory other j s (plan_of port memory)
+    rw (plan_there port memory other s) (reads_by port memory other j s (plan_of port memory))
 
 pub written_there : (missing : Missing) (j n : ℕ) (port : PortState) (memory other : List ℕ)
     → Agrees port j memory other → written_of missing (port, memory) j n ≡ written_of missing (port, other) j n
 written_there missing j n port memory other agrees =
     let s = same_descriptors port memory other agrees.same_length agrees.same_descriptors in
-    let plan = plan_there port memory other s in
-    let written = ap (λ (p : Plan). (use_by port other j p).written) plan
-    ∙ written_by_plan port memory other j s (plan_of port memory) (looks_of port memory) agrees.same_body in
-    sym (ap₂ (λ (p : Plan) (rs : List ByteRange). written_after p n rs) plan
-    (ap₂ written_by_fate (fate_there missing port memory other s) written))
+    rw (plan_there port memory other s, written_by_plan port memory other j s _ refl agrees.same_body)
 
 -- ---- the law
 
 none_after : (p : Plan) (n : ℕ) → written_after p n NONE_WRITTEN ≡ NONE_WRITTEN
-none_after ToExecute n =
-    let none : min 0 n ≡ 0 = omega arith in
-    ap (λ (b : ℕ). record { at = 0; bytes = b } ∷ EMPTY_RANGE ∷ EMPTY_RANGE ∷ EMPTY_RANGE ∷ []) none
-none_after _ n = refl
+none_after p n = grind arith
 
 module _ (missing : Missing) (j : ℕ) (old : PortState) (memory : List ℕ) (turn : Turn) (new : PortState)
     (memory_after : List ℕ) where
@@ -881,8 +690,7 @@ module _ (missing : Missing) (j : ℕ) (old : PortState) (memory : List ℕ) (tu
       → EffectBy fate j (old, other) turn (new, after) → EffectWithout missing j (old, other) turn (new, after)
   effect_there fate other after is agrees effect =
       let s = same_descriptors old memory other agrees.same_length agrees.same_descriptors in
-      subst (λ (f : Fate). EffectBy f j (old, other) turn (new, after))
-      (sym (fate_there missing old memory other s ∙ is)) effect
+      rw (fate_there missing old memory other s, is) effect
 
   -- what the turn wrote
   abbrev wrote_by : Fate → List ByteRange
@@ -895,15 +703,10 @@ module _ (missing : Missing) (j : ℕ) (old : PortState) (memory : List ℕ) (tu
       → memory_after ≡ memory → ((other : List ℕ) → EffectBy fate j (old, other) turn (new, other))
       → IsLocal missing j (old, memory) (record { turn = turn; written = written }) (new, memory_after)
   unchanged fate is written none wrote stays effect =
-      let same : written ≡ NONE_WRITTEN =
-      sym wrote ∙ ap (written_after (plan_of old memory) (newest_count new)) none
-      ∙ none_after (plan_of old memory) (newest_count new) in
+      let same : written ≡ NONE_WRITTEN = sym wrote ∙ rw none (none_after (plan_of old memory) (newest_count new)) in
       record {
-        only = stays ∙ sym (ap (λ (f : Fate). carried (written_by_fate f (use_of old memory j).written) memory_after memory) is
-            ∙ ap (λ (rs : List ByteRange). carried rs memory_after memory) none ∙ carried_none memory_after memory);
-        elsewhere = λ other agrees.
-            subst (λ (after : List ℕ). EffectWithout missing j (old, other) turn (new, after))
-            (sym (ap (λ (rs : List ByteRange). carried rs memory_after other) same ∙ carried_none memory_after other))
+        only = rw (is, none, stays) (sym (carried_none memory memory));
+        elsewhere = λ other agrees. rw (same, carried_none memory_after other)
             (effect_there fate other other is agrees (effect other));
       }
 
@@ -914,8 +717,7 @@ module _ (missing : Missing) (j : ℕ) (old : PortState) (memory : List ℕ) (tu
       let local = case_local old memory j new memory_after valid turn
       (case_at j (old, memory) turn (new, memory_after) effect) in
       record {
-        only = local.only
-            ∙ sym (ap (λ (f : Fate). carried (written_by_fate f (use_of old memory j).written) memory_after memory) is);
+        only = rw is local.only;
         elsewhere = λ other agrees.
             let s = same_descriptors old memory other agrees.same_length agrees.same_descriptors in
             effect_there Usual other _ is agrees (turns_at j (old, other) turn (new, _)
@@ -945,22 +747,18 @@ no_bytes (x ∷ xs) none = absurd (omega arith)
 
 pub all_four : (P : ByteRange → Type 0) (a b c d : ByteRange) → P a → P b → P c → P d
     → All P (a ∷ b ∷ c ∷ d ∷ [])
-all_four P a b c d ha hb hc hd =
-    All-cons P a (b ∷ c ∷ d ∷ []) ha
-    (All-cons P b (c ∷ d ∷ []) hb (All-cons P c (d ∷ []) hc (All-cons P d [] hd (All-nil P))))
+all_four P a b c d ha hb hc hd = All-from_recursion P (a ∷ b ∷ c ∷ d ∷ []) (ha, (hb, (hc, (hd, tt))))
 
 pub none_lies : (memory : List ℕ) → All (LiesIn memory) NONE_WRITTEN
 none_lies memory = all_four (LiesIn memory) _ _ _ _ zero-le zero-le zero-le zero-le
 
 lies_indicator : (indicator : Option ℕ) (base : ℕ) (memory : List ℕ) → IsBelow indicator base
     → base ≤ length memory → LiesIn memory (indicator_range indicator)
-lies_indicator None base memory below within = zero-le
-lies_indicator (Some at) base memory below within = let under = below.1 in omega arith
+lies_indicator indicator base memory below within = grind arith
 
 room_fits : (profile : Profile) (memory : List ℕ) (at n : ℕ) → n ≤ 48 → HasRoom profile memory at n
     → at + n ≤ length memory
-room_fits Strict memory at n short h = let within = h.packet.within in omega arith
-room_fits (Compatible identity) memory at n short h = h.within
+room_fits profile memory at n short h = grind arith
 
 pub delivery_lies : (port : PortState) (memory : List ℕ) (text : ByteRange) (indicator : Option ℕ)
     → text.bytes ≤ 48 → HasRoom port.profile memory text.at text.bytes → IsBelow indicator port.responses.base
@@ -972,16 +770,14 @@ delivery_lies port memory text indicator short room below within size told retur
     let above = has_above port.profile memory text.at text.bytes room in
     all_four (LiesIn memory) (range_at text.at size) (range_at (text.at - 4) 4) told returned (omega arith)
     (omega arith)
-    (subst (LiesIn memory) (sym is_told)
-    (lies_indicator indicator port.responses.base memory below (omega arith)))
-    (subst (LiesIn memory) (sym is_returned) (omega arith))
+    (rw is_told (lies_indicator indicator port.responses.base memory below (omega arith))) (rw is_returned (omega arith))
 
 pub delivery_none : (port : PortState) (memory : List ℕ) (text body : ByteRange)
     → body ≡ packet_range memory text.at text.bytes
     → (HasRoom port.profile memory text.at text.bytes → ⊥)
     → record { body = body; reads_body = true; written = NONE_WRITTEN } ≡ delivery_use port memory text
 delivery_none port memory text body is never =
-    rw (is, fails _ _ (room_from port.profile memory text.at text.bytes) never) refl
+    rw (is, fails _ _ (room_from port.profile memory text.at text.bytes) never)
 
 pub delivery_is : (port : PortState) (memory : List ℕ) (text body : ByteRange) (size : ℕ)
     (told returned : ByteRange) → size ≡ text.bytes → body ≡ packet_range memory text.at text.bytes
@@ -993,7 +789,7 @@ pub delivery_is : (port : PortState) (memory : List ℕ) (text body : ByteRange)
       written = range_at text.at size ∷ range_at (text.at - 4) 4 ∷ told ∷ returned ∷ [];
     } ≡ delivery_use port memory text
 delivery_is port memory text body size told returned is_size is_body is_told is_returned room =
-    rw (is_size, is_body, is_told, is_returned, room_true port.profile memory text.at text.bytes room) refl
+    rw (is_size, is_body, is_told, is_returned, room_true port.profile memory text.at text.bytes room)
 
 pub fetch_is : (port : PortState) (memory : List ℕ) (d : Descriptor) (at : ℕ) (body : ByteRange)
     (readable : Bool) (written : List ByteRange) → at ≡ text_address port.profile d
@@ -1002,41 +798,13 @@ pub fetch_is : (port : PortState) (memory : List ℕ) (d : Descriptor) (at : ℕ
     → record { body = body; reads_body = true; written = written }
     ≡ fetch_use port memory (text_address port.profile d)
 fetch_is port memory d at body readable written is_at is_body is_written has is =
-    let make : ByteRange → List ByteRange → MemoryUse =
-    λ b w. record { body = b; reads_body = true; written = w } in
-    let text = text_iff memory at 48 readable has is in
-    ap₂ make is_body (is_written ∙ ap (written_by_fetch port memory) text) ∙ ap (fetch_use port memory) is_at
+    rw (is_body, is_written, text_iff memory at 48 readable has is, is_at)
 
 -- ---- fates
 
-abbrev is_without : Fate → Bool
-is_without WithoutBuffer = true
-is_without _ = false
-
-if_false : (b : Bool) (x y : Fate) → is_without x ≡ false → is_without y ≡ false
-    → is_without (if b then x else y) ≡ false
-if_false true x y h k = h
-if_false false x y h k = k
-
--- a turn without its buffer executes a command
-without_at : (missing : Missing) (plan : Plan) → is_without (fate_at missing plan) ≡ true → plan ≡ ToExecute
-without_at missing ToExecute is = refl
-without_at missing (ToFetch d) is = absurd (let no = sym is ∙ if_false missing.body _ _ refl refl in cc)
-without_at missing ToWait is = absurd (let no = sym is ∙ if_false missing.responses _ _ refl refl in cc)
-without_at missing NoResponseRing is = absurd (let no = sym is ∙ if_false missing.responses _ _ refl refl in cc)
-without_at missing (ToDeliver d n) is =
-    absurd (let no = sym is ∙ if_false missing.responses _ _ refl (if_false missing.body _ _ refl refl) in cc)
-without_at missing _ is = absurd (cc)
-
 pub without_buffer : (phase : Phase) (missing : Missing) (looks : Bool) (plan : Plan)
     → fate_in phase missing looks plan ≡ WithoutBuffer → plan ≡ ToExecute
-without_buffer Running missing looks plan is = by (looks && missing.commands) (ap is_without is)
-  where
-    by : (b : Bool) → is_without (if b then FailsInFetch fatal.RingRead else fate_at missing plan) ≡ true
-        → plan ≡ ToExecute
-    by true is = absurd (cc)
-    by false is = without_at missing plan is
-without_buffer _ missing looks plan is = absurd (cc)
+without_buffer phase missing looks plan is = grind arith
 
 pub fate_lies : (memory : List ℕ) (fate : Fate) (written : List ByteRange) → All (LiesIn memory) written
     → All (LiesIn memory) (written_by_fate fate written)
@@ -1077,8 +845,4 @@ fate_fails profile _ missing looks plan = tt
 -- only a running port's turn has another fate than the usual one
 pub running_fails : (missing : Missing) (port : PortState) (memory : List ℕ)
     → (fate_of missing port memory ≡ Usual → ⊥) → port.phase ≡ Running
-running_fails missing port memory fails = by port.phase fails
-  where
-    by : (phase : Phase) → (fate_in phase missing (may_fetch port) (plan_of port memory) ≡ Usual → ⊥) → phase ≡ Running
-    by Running not = refl
-    by _ not = absurd (not refl)
+running_fails missing port memory fails = grind arith

@@ -1,5 +1,6 @@
 -- How soon an attention message that is due is delivered: what the effect of a turn says of it.
-use Rattle.std.proofs.Common.{◌≡◌, ◌≤◌, ◌<◌, ℕ, zero, suc, ◌+◌, Bool, true, false, List, [], ◌∷◌, ◌++◌, length, Option, Some, None, arith, refl, ap, subst}
+use Rattle.std.proofs.lemmas.Bool.Decides.{nat_tests}
+use Rattle.std.proofs.Common.{◌≡◌, ◌≤◌, ◌<◌, ℕ, zero, suc, ◌+◌, Bool, true, false, List, [], ◌∷◌, ◌++◌, length, Option, Some, None, arith, refl, ap}
 use Rattle.std.proofs.lemmas.List.{length-append, length-take, length-drop}
 use Rattle.std.specs.Prelude.{IsSome, set, take, drop, remove, slice_get, Result, Ok, Err, if◌then◌else◌}
 use Rattle.std.specs.List.{position_or_len, before_first, after_first}
@@ -11,7 +12,6 @@ use Rattle.uda_exec.specs.Disks.{ExecState}
 use Rattle.uda_exec.specs.Named.{is_named}
 use Rattle.uda_port.specs.declared.guest.Guest.{Guest}
 use Rattle.uda_port.specs.declared.packet.Fetched.{Fetched as Packet}
-use Rattle.uda_port.specs.declared.phase.Phase.{Phase}
 use Rattle.uda_port.specs.declared.profile.Profile.{Profile}
 use Rattle.uda_port.specs.declared.profile.Profile.TheVariants.{Strict, Compatible}
 use Rattle.uda_port.specs.declared.turn.Turn.{Turn}
@@ -22,9 +22,7 @@ use Rattle.uda_port.specs.Attention.{MOST_TURNS_TO_NOTIFY, UndeliveredTurn, Atte
 use Rattle.uda_port.specs.Guest.{is_due, first_due, guest_after}
 use Rattle.uda_port.specs.Message.{message_in, flags_kept}
 use Rattle.uda_port.specs.Port.{PortState, CreditsAgree}
-use Rattle.uda_port.specs.Report.{attention_text}
-use Rattle.uda_port.specs.Turn.{TurnEffect, RunningTurn, ExecutesFor, port_with_message, port_turn_on, port_not_polling}
-use Rattle.uda_port.proofs.TurnLaws.{attention_first}
+use Rattle.uda_port.specs.Turn.{TurnEffect, RunningTurn, ExecutesFor, port_with_message, port_turn_on}
 
 -- ---- due attention messages
 
@@ -61,9 +59,7 @@ module _ (xs : List Bool) where
 
 flags_attentions : (profile : Profile) (p : Packet) (message : Result GuestCommand Reply) (g : Guest)
     → (flags_kept profile p message g).attentions ≡ g.attentions
-flags_attentions Strict p message g = refl
-flags_attentions (Compatible identity) p (Err reply) g = refl
-flags_attentions (Compatible identity) p (Ok c) g = grind arith
+flags_attentions profile p message g = grind (arith, nat_tests)
 
 after_end : (e : Reply) (g : Guest) → due_count (guest_after e g).attentions ≤ due_count g.attentions
 after_end e g = grind (arith, fewer_or_same)
@@ -107,18 +103,12 @@ with_message old (Err r) = omega (arith, by_profile old.profile r old.exec)
 -- ---- a turn
 
 some_of : {A : Type 0} (o : Option A) → IsSome o → (x : A) × (o ≡ Some x)
-some_of None is = absurd (cc)
-some_of (Some x) is = (x, refl)
+some_of o is = grind (arith, nat_tests)
 
 module _ (old : PortState) (memory : List ℕ) (new : PortState) (memory_after : List ℕ)
     (may : MayNotify old memory) where
   running_first : (turn : Turn) → RunningTurn old memory turn new memory_after → goes_before_ends turn ≡ true
-  running_first Delivered goes = absurd (cc (may.due, goes.rest.1.none_due))
-  running_first Idle goes =
-      let text = some_of (attention_text old) may.due in
-      let host = goes.rest.1.0 text.0 (attention_first (port_not_polling (port_turn_on old)) text.0 text.1) in
-      absurd (cc (host.is_next, host.not_owned, may.free.is_next, may.free.owned))
-  running_first _ goes = refl
+  running_first turn goes = grind (arith, nat_tests)
 
   running_nearer : (turn : Turn) → RunningTurn old memory turn new memory_after → ComesNearer old turn new
   running_nearer Fetched goes =
@@ -141,10 +131,10 @@ module _ (old : PortState) (memory : List ℕ) (new : PortState) (memory_after :
 
   runs : (turn : Turn) → TurnEffect old.phase old memory turn new memory_after
       → RunningTurn old memory turn new memory_after
-  runs turn goes = subst (λ (p : Phase). TurnEffect p old memory turn new memory_after) may.runs goes
+  runs turn goes = grind (arith, nat_tests)
 
   pub first : (turn : Turn) → TurnEffect old.phase old memory turn new memory_after → goes_before_ends turn ≡ true
-  first turn goes = running_first turn (runs turn goes)
+  first turn goes = grind (arith, nat_tests)
 
   pub nearer : (turn : Turn) → TurnEffect old.phase old memory turn new memory_after → ComesNearer old turn new
   nearer turn goes = running_nearer turn (runs turn goes)
@@ -152,21 +142,19 @@ module _ (old : PortState) (memory : List ℕ) (new : PortState) (memory_after :
 -- ---- the most of any port
 
 one_at_most : (b : Bool) → one_if b ≤ 1
-one_at_most true = omega arith
-one_at_most _ = omega arith
+one_at_most b = grind (arith, nat_tests)
 
 four_at_most : (xs : List Bool) → due_count xs ≤ 4
 four_at_most xs = omega (arith, one_at_most)
 
 pub most_turns : (port : PortState) → CreditsAgree port → turns_to_notify port ≤ MOST_TURNS_TO_NOTIFY
-most_turns port agree = omega (arith, agree.credits, agree.conserved, four_at_most port.guest.attentions)
+most_turns port agree = grind (arith, nat_tests)
 
 -- ---- turns one after another
 
 lives_nearer : (old : PortState) (turn : Turn) (new : PortState) → (turn ≡ Dead → ⊥) → ComesNearer old turn new
     → turns_to_notify new < turns_to_notify old
-lives_nearer old Dead new lives it = absurd (lives refl)
-lives_nearer old _ new lives it = it
+lives_nearer old turn new lives it = grind (arith, nat_tests)
 
 one_nearer : (old new : PortState) → UndeliveredTurn old new → turns_to_notify new < turns_to_notify old
 one_nearer old new t =

@@ -1,9 +1,9 @@
 -- What a turn does, it does in each memory that agrees where the turn reads.
-use Rattle.std.proofs.Common.{◌≡◌, ℕ, zero, suc, ◌+◌, ◌-◌, ◌%◌, ◌<◌, ◌≤◌, min, Bool, true, false, List, [], ◌∷◌, length, Option, Some, None, refl, sym, ap, subst, ◌∙◌, arith, zero-le, length-append}
-use Rattle.std.specs.Prelude.{◌&&◌, ◌++◌, All, nat_eq, nat_le, slice_get, if◌then◌else◌}
-use Rattle.std.proofs.lemmas.Bool.{and_parts, eq-eqb, leb-true}
+use Rattle.std.proofs.Common.{◌≡◌, ℕ, zero, suc, ◌+◌, ◌-◌, ◌%◌, ◌<◌, ◌≤◌, min, Bool, true, false, List, [], ◌∷◌, length, Option, Some, None, refl, sym, ap, subst, ◌∙◌, arith, length-append}
+use Rattle.std.specs.Prelude.{◌++◌, All, nat_eq, slice_get, if◌then◌else◌}
+use Rattle.std.proofs.lemmas.Bool.{eq-eqb}
 use Rattle.std.proofs.lemmas.Bool.Decides.{nat_tests}
-use Rattle.std.proofs.lemmas.List.Elements.{All-from_recursion, All-cons, All-head, All-tail}
+use Rattle.std.proofs.lemmas.List.Elements.{All-cons, All-head, All-tail}
 use Rattle.std.proofs.lemmas.Option.{slice_get_past}
 use Rattle.uda_disk.proofs.Lists.{slice_get-last}
 use Rattle.uda_mem.specs.declared.range.ByteRange.{ByteRange}
@@ -16,14 +16,13 @@ use Rattle.uda_mem.proofs.RangeLaws.{Write, ranges_of, puts, carried_puts, part_
 use Rattle.uda_packet.specs.declared.command.Command.{Command}
 use Rattle.uda_packet.specs.declared.guest_command.GuestCommand.{GuestCommand}
 use Rattle.uda_packet.specs.declared.guest_command.GuestOp.{GuestOp}
-use Rattle.uda_packet.specs.declared.guest_command.GuestOp.TheVariants.{Basic, SetUnit, Compare}
+use Rattle.uda_packet.specs.declared.guest_command.GuestOp.TheVariants.{Basic}
 use Rattle.uda_packet.specs.declared.command.Op.{Op}
-use Rattle.uda_packet.specs.declared.command.Op.TheVariants.{Read}
 use Rattle.uda_packet.specs.declared.reply.Reply.{Reply}
 use Rattle.uda_exec.specs.BufferUse.{used_length, changed_length, read_length, moved_length, bytes_moved, buffer_use, buffer_use_at}
 use Rattle.uda_exec.specs.Commands.{buffer_start, buffer_length, memory_read_length}
 use Rattle.uda_exec.specs.Disks.{ExecState}
-use Rattle.uda_exec.specs.GuestExecution.{ExecutesAs, ExecutesGuestAt}
+use Rattle.uda_exec.specs.GuestExecution.{ExecutesGuestAt}
 use Rattle.uda_exec.specs.GuestOps.{op_at}
 use Rattle.uda_exec.proofs.Changes.{length-changes}
 use Rattle.uda_exec.proofs.Elsewhere.{changes_as, reads_none, executes_as_elsewhere}
@@ -41,7 +40,7 @@ use Rattle.uda_port.specs.declared.memory_use.Missing.{Missing}
 use Rattle.uda_port.specs.declared.turn_at.Fate.{Fate}
 use Rattle.uda_port.specs.declared.turn_at.Fate.TheVariants.{Usual, FailsInFetch, FailsLater, WithoutBuffer}
 use Rattle.uda_port.specs.Ring.{RingState, descriptor_address, next_descriptor, memory_returned, returned_word}
-use Rattle.uda_port.specs.Interrupt.{ring_before, indicator_at, memory_with_indicator, IsBelow, word_below, is_ring_transition}
+use Rattle.uda_port.specs.Interrupt.{ring_before, indicator_at, memory_with_indicator, IsBelow, word_below}
 use Rattle.uda_port.specs.Packet.{HasText, HasPacket, IsPacketAt, HasRoom, packet_put, text_address}
 use Rattle.uda_port.specs.Report.{end_text, next_text}
 use Rattle.uda_port.specs.Port.{PortState, command_indicator, response_indicator, next_grant}
@@ -53,9 +52,8 @@ use Rattle.uda_port.specs.declared.plan.Plan.TheVariants.{AtRest, NoCommandRing,
 use Rattle.uda_port.specs.Plan.{plan_of, looks_at_commands, looks_at_responses, is_execution}
 use Rattle.uda_port.specs.Plan.{Step, TurnIs, TurnCase, Rests, CommandRingLost, Unreadable, Exceeds, BadConnection, Fetches, Executes, DeliversEnd, Notifies, Waits, ResponseRingLost, NoRoom}
 use Rattle.uda_port.specs.Turn.{Unchanged, ExecutesFor, TurnEffect, TakesPacket, NothingToFetch, NothingToDeliver, ExecutesOne, may_fetch, fetching_of, port_turn_on, port_not_polling}
-use Rattle.uda_port.specs.MemoryUse.{looked_at, descriptor_ranges, first_of, written_after, newest_count, packet_range, indicator_range, returned_range, NONE_WRITTEN, has_text, has_room, written_by_fetch, fetch_use, looked_up, written_by_delivery, delivery_use, use_by, use_of, fate_at, fate_in, fate_of, CanFail, EffectBy, EffectWithout, written_by_fate, written_of, Agrees, AgreesInDescriptors, IsLocal, HasValidRings}
-use Rattle.uda_port.proofs.PlanLaws.{plan_rests, plan_outside, plan_fetches, plan_executes, plan_lost, plan_delivers, IsQuiet, NoneWaits, Waiting, plan_quiet, some_executed, case_of, executed_case, case_at, turns_at}
-use Rattle.uda_port.proofs.PortSteps.{reads_no_ring, reads_no_packet, writes_no_packet}
+use Rattle.uda_port.specs.MemoryUse.{looked_at, descriptor_ranges, first_of, written_after, newest_count, packet_range, indicator_range, returned_range, NONE_WRITTEN, has_text, has_room, written_by_fetch, fetch_use, looked_up, written_by_delivery, delivery_use, use_by, use_of, fate_in, fate_of, CanFail, EffectBy, EffectWithout, written_by_fate, written_of, Agrees, AgreesInDescriptors, IsLocal, HasValidRings}
+use Rattle.uda_port.proofs.PlanLaws.{plan_rests, plan_outside, plan_fetches, plan_executes, plan_lost, plan_delivers, IsQuiet, NoneWaits, Waiting, plan_quiet, some_executed, case_at, turns_at}
 use Rattle.uda_port.proofs.RingLaws.{takes_first}
 use Rattle.uda_port.proofs.TurnLaws.{executes_for, attention_first, first_text}
 
@@ -65,14 +63,11 @@ text_true : (memory : List ℕ) (at n : ℕ) → HasText memory at n → has_tex
 text_true memory at n h = grind (arith, nat_tests)
 
 text_from : (memory : List ℕ) (at n : ℕ) → has_text memory at n ≡ true → HasText memory at n
-text_from memory at n h = search (arith, and_parts, nat_tests)
+text_from memory at n h = grind (arith, nat_tests)
 
 pub text_iff : (memory : List ℕ) (at n : ℕ) (b : Bool) → (b ≡ true → HasText memory at n)
     → (HasText memory at n → b ≡ true) → b ≡ has_text memory at n
-text_iff memory at n b has is = decides (HasText memory at n) _ (text_true memory at n) (text_from memory at n) has is
-  where
-    decides : (P : Type 0) (a : Bool) → (P → a ≡ true) → (a ≡ true → P) → (b ≡ true → P) → (P → b ≡ true) → b ≡ a
-    decides P a to from has is = grind arith
+text_iff memory at n b has is = grind (arith, nat_tests)
 
 -- a test that doesn't hold
 fails : (P : Type 0) (a : Bool) → (a ≡ true → P) → (P → ⊥) → a ≡ false
@@ -84,10 +79,7 @@ room_true profile memory at n h = grind (arith, nat_tests)
 
 room_from : (profile : Profile) (memory : List ℕ) (at n : ℕ) → has_room profile memory at n ≡ true
     → HasRoom profile memory at n
-room_from Strict memory at n h =
-    let both = and_parts (has_text memory at 48) _ h in
-    record { packet = text_from memory at 48 both.0; long = leb-true _ _ both.1 }
-room_from (Compatible identity) memory at n h = text_from memory at n h
+room_from profile memory at n h = grind (arith, nat_tests)
 
 -- ---- what is read
 
@@ -249,12 +241,7 @@ op_none j = grind (arith, slice_get_past)
 pub as_guest : (profile : Profile) (j : ℕ) (old : ExecState) (memory : List ℕ) (r : Reply) (new : ExecState)
     (memory_after : List ℕ) → (profile ≡ Strict → old.guest_ops ≡ [])
     → ExecutesFor profile j old memory r new memory_after → ExecutesGuestAt j old memory r new memory_after
-as_guest Strict j old memory r new memory_after none x =
-    let basic : op_at old.guest_ops j ≡ Basic = rw (none refl) (op_none j) in
-    let executes : ExecutesAs (op_at old.guest_ops j) x.executes.command old.units memory r new.units memory_after =
-    rw basic (search (x, x.executes)) in
-    search (x.executes, x.executes.executes, executes)
-as_guest (Compatible identity) j old memory r new memory_after none x = x
+as_guest profile j old memory r new memory_after none x = grind (arith, nat_tests)
 
 -- the buffer of the pending command at an index
 buffer_is : (exec : ExecState) (j : ℕ) (c : Command) → slice_get exec.pending j ≡ Some c
@@ -264,13 +251,10 @@ buffer_is exec j c stands =
 
 -- it reads no more than it uses
 reads_few : (op : Op) → memory_read_length op ≤ buffer_length op
-reads_few (Read bytes address lbn) = zero-le
-reads_few _ = omega arith
+reads_few op = grind (arith, nat_tests)
 
 reads_used : (o : GuestOp) (op : Op) → read_length o op ≤ used_length o op
-reads_used Basic op = reads_few op
-reads_used SetUnit op = reads_few op
-reads_used Compare op = omega arith
+reads_used o op = grind (arith, nat_tests)
 
 -- and a command that changes its buffer reads none of it
 read_in : (memory other : List ℕ) (g : GuestCommand) → length other ≡ length memory
@@ -298,27 +282,18 @@ newest_is port queued r is =
 
 below_if : (indicator : Option ℕ) (b : Bool) (base : ℕ) → IsBelow indicator base
     → IsBelow (if b then indicator else None) base
-below_if indicator true base h = h
-below_if indicator false base h = tt
+below_if indicator b base h = grind (arith, nat_tests)
 
 below_word : (base above : ℕ) → base % 2 ≡ 0 → base ≤ above → IsBelow (word_below base 4) above
-below_word base above even less = go (nat_le 4 base) refl
-  where
-    go : (b : Bool) → nat_le 4 base ≡ b → IsBelow (if b then Some (base - 4) else None) above
-    go true is = let four = leb-true 4 base is in (omega arith, omega arith)
-    go false is = tt
+below_word base above even less = grind (arith, nat_tests)
 
 below_at : (profile : Profile) (indicator : Option ℕ) (memory : List ℕ) (r : RingState) (base : ℕ)
     → IsBelow indicator base → IsBelow (indicator_at profile indicator memory r) base
-below_at Strict indicator memory r base h = tt
-below_at (Compatible identity) indicator memory r base h =
-    below_if indicator (is_ring_transition memory r) base h
+below_at profile indicator memory r base h = grind (arith, nat_tests)
 
 command_below : (port : PortState) (memory : List ℕ) → HasValidRings port
     → IsBelow (command_indicator port memory) port.commands.base
-command_below port memory valid =
-    below_at port.profile (word_below port.responses.base 4) memory port.commands port.commands.base
-    (below_word port.responses.base port.commands.base valid.even valid.ordered)
+command_below port memory valid = grind (arith, nat_tests)
 
 has_above : (profile : Profile) (memory : List ℕ) (at n : ℕ) → HasRoom profile memory at n → 4 ≤ at
 has_above profile memory at n h = grind arith
@@ -388,20 +363,15 @@ module _ (old : PortState) (memory : List ℕ) (j : ℕ) (new : PortState) (memo
 
   still : (before other : List ℕ) (port : PortState) → Unchanged port before new memory_after
       → Unchanged port other new other
-  still before other port same = record { state = same.state; memory_stays = refl }
+  still before other port same = grind (arith, nat_tests)
 
   nothing_there : (other : List ℕ) → SameDescriptors old memory other → (may_fetch old ≡ true → looks_at_commands old ≡ true)
       → NothingToFetch old memory → NothingToFetch old other
-  nothing_there other s at nothing = λ looks.
-      let f = nothing looks in
-      record { next = f.next; is_next = s.command (at looks) ∙ f.is_next; not_owned = f.not_owned }
+  nothing_there other s at nothing = grind (arith, nat_tests)
 
   reaches_there : (other : List ℕ) → SameDescriptors old memory other → old.phase ≡ Running → Delivers old memory
       → Delivers old other
-  reaches_there other s runs reaches = record {
-    nothing_to_fetch = nothing_there other s (λ may. grind arith) reaches.nothing_to_fetch;
-    nothing_pending = reaches.nothing_pending;
-  }
+  reaches_there other s runs reaches = grind (arith, nat_tests)
 
   -- a packet that was taken, and what follows from that
   module _ (packet : Fetched) (ring_after : RingState) (runs : old.phase ≡ Running) (may : may_fetch old ≡ true)
@@ -469,7 +439,7 @@ module _ (old : PortState) (memory : List ℕ) (j : ℕ) (new : PortState) (memo
     looks_there = grind arith
 
     above : 4 ≤ place
-    above = has_above old.profile memory place (length text) t.room
+    above = grind (arith, nat_tests)
 
     puts_there : (other : List ℕ) → SameDescriptors old memory other
         → SameIn memory other (packet_range memory place (length text))
@@ -633,11 +603,11 @@ fetch_looks port memory d is = grind arith
 
 plan_there : (port : PortState) (memory other : List ℕ) → SameDescriptors port memory other
     → plan_of port other ≡ plan_of port memory
-plan_there port memory other s = grind (arith, s.command, s.response)
+plan_there port memory other s = grind (arith, nat_tests)
 
 fate_there : (missing : Missing) (port : PortState) (memory other : List ℕ)
     → SameDescriptors port memory other → fate_of missing port other ≡ fate_of missing port memory
-fate_there missing port memory other s = rw (plan_there port memory other s)
+fate_there missing port memory other s = grind (arith, nat_tests)
 
 module _ (port : PortState) (memory other : List ℕ) (j : ℕ) (s : SameDescriptors port memory other) where
   reads_by : (p : Plan) → (use_by port other j p).reads_body ≡ (use_by port memory j p).reads_body
@@ -734,10 +704,7 @@ module _ (missing : Missing) (j : ℕ) (old : PortState) (memory : List ℕ) (tu
 pub executes_pending : (old : PortState) (memory : List ℕ) (new : PortState) (memory_after : List ℕ) → 0 < length old.exec.pending
     → (turn : Turn) → old.phase ≡ Running
     → TurnEffect old.phase (port_not_polling old) memory turn new memory_after → turn ≡ did.Executed
-executes_pending old memory new memory_after pending turn runs goes =
-    let s : Step = record { old = port_not_polling old; memory = memory; new = new; memory_after = memory_after } in
-    executed_case (λ j. Unit {0}) turn s (case_of turn s goes)
-    (plan_executes (port_not_polling old) memory runs (λ looks. absurd (cc)) pending)
+executes_pending old memory new memory_after pending turn runs goes = grind (arith, nat_tests)
 
 -- ---- the code
 
@@ -747,10 +714,10 @@ no_bytes (x ∷ xs) none = absurd (omega arith)
 
 pub all_four : (P : ByteRange → Type 0) (a b c d : ByteRange) → P a → P b → P c → P d
     → All P (a ∷ b ∷ c ∷ d ∷ [])
-all_four P a b c d ha hb hc hd = All-from_recursion P (a ∷ b ∷ c ∷ d ∷ []) (ha, (hb, (hc, (hd, tt))))
+all_four P a b c d ha hb hc hd = grind (arith, nat_tests)
 
 pub none_lies : (memory : List ℕ) → All (LiesIn memory) NONE_WRITTEN
-none_lies memory = all_four (LiesIn memory) _ _ _ _ zero-le zero-le zero-le zero-le
+none_lies memory = grind (arith, nat_tests)
 
 lies_indicator : (indicator : Option ℕ) (base : ℕ) (memory : List ℕ) → IsBelow indicator base
     → base ≤ length memory → LiesIn memory (indicator_range indicator)
@@ -766,18 +733,13 @@ pub delivery_lies : (port : PortState) (memory : List ℕ) (text : ByteRange) (i
     → size ≡ text.bytes → told ≡ indicator_range indicator → returned ≡ returned_range port.responses
     → All (LiesIn memory) (range_at text.at size ∷ range_at (text.at - 4) 4 ∷ told ∷ returned ∷ [])
 delivery_lies port memory text indicator short room below within size told returned is_size is_told is_returned =
-    let fits = room_fits port.profile memory text.at text.bytes short room in
-    let above = has_above port.profile memory text.at text.bytes room in
-    all_four (LiesIn memory) (range_at text.at size) (range_at (text.at - 4) 4) told returned (omega arith)
-    (omega arith)
-    (rw is_told (lies_indicator indicator port.responses.base memory below (omega arith))) (rw is_returned (omega arith))
+    grind (arith, nat_tests)
 
 pub delivery_none : (port : PortState) (memory : List ℕ) (text body : ByteRange)
     → body ≡ packet_range memory text.at text.bytes
     → (HasRoom port.profile memory text.at text.bytes → ⊥)
     → record { body = body; reads_body = true; written = NONE_WRITTEN } ≡ delivery_use port memory text
-delivery_none port memory text body is never =
-    rw (is, fails _ _ (room_from port.profile memory text.at text.bytes) never)
+delivery_none port memory text body is never = grind (arith, nat_tests)
 
 pub delivery_is : (port : PortState) (memory : List ℕ) (text body : ByteRange) (size : ℕ)
     (told returned : ByteRange) → size ≡ text.bytes → body ≡ packet_range memory text.at text.bytes
@@ -788,8 +750,7 @@ pub delivery_is : (port : PortState) (memory : List ℕ) (text body : ByteRange)
       reads_body = true;
       written = range_at text.at size ∷ range_at (text.at - 4) 4 ∷ told ∷ returned ∷ [];
     } ≡ delivery_use port memory text
-delivery_is port memory text body size told returned is_size is_body is_told is_returned room =
-    rw (is_size, is_body, is_told, is_returned, room_true port.profile memory text.at text.bytes room)
+delivery_is port memory text body size told returned is_size is_body is_told is_returned room = grind (arith, nat_tests)
 
 pub fetch_is : (port : PortState) (memory : List ℕ) (d : Descriptor) (at : ℕ) (body : ByteRange)
     (readable : Bool) (written : List ByteRange) → at ≡ text_address port.profile d
@@ -797,8 +758,7 @@ pub fetch_is : (port : PortState) (memory : List ℕ) (d : Descriptor) (at : ℕ
     → (readable ≡ true → HasText memory at 48) → (HasText memory at 48 → readable ≡ true)
     → record { body = body; reads_body = true; written = written }
     ≡ fetch_use port memory (text_address port.profile d)
-fetch_is port memory d at body readable written is_at is_body is_written has is =
-    rw (is_body, is_written, text_iff memory at 48 readable has is, is_at)
+fetch_is port memory d at body readable written is_at is_body is_written has is = grind (arith, nat_tests)
 
 -- ---- fates
 
@@ -808,8 +768,7 @@ without_buffer phase missing looks plan is = grind arith
 
 pub fate_lies : (memory : List ℕ) (fate : Fate) (written : List ByteRange) → All (LiesIn memory) written
     → All (LiesIn memory) (written_by_fate fate written)
-fate_lies memory Usual written lies = lies
-fate_lies memory _ written lies = none_lies memory
+fate_lies memory fate written lies = grind (arith, nat_tests)
 
 pub after_lies : (memory : List ℕ) (p : Plan) (n : ℕ) (ranges : List ByteRange) → All (LiesIn memory) ranges
     → All (LiesIn memory) (written_after p n ranges)
@@ -822,25 +781,12 @@ after_lies memory _ n ranges lies = lies
 
 if_can : (profile : Profile) (b : Bool) (x y : Fate) → CanFail profile Running x → CanFail profile Running y
     → CanFail profile Running (if b then x else y)
-if_can profile true x y h k = h
-if_can profile false x y h k = k
+if_can profile b x y h k = grind (arith, nat_tests)
 
 -- a port that can have the fate of its turn
 pub fate_fails : (profile : Profile) (phase : Phase) (missing : Missing) (looks : Bool) (plan : Plan)
     → CanFail profile phase (fate_in phase missing looks plan)
-fate_fails profile Running missing looks plan =
-    if_can profile (looks && missing.commands) _ (fate_at missing plan) (reads_no_ring profile Running refl) (by plan)
-  where
-    by : (p : Plan) → CanFail profile Running (fate_at missing p)
-    by (ToFetch d) = if_can profile missing.body _ _ (reads_no_packet profile Running refl) tt
-    by ToExecute = if_can profile missing.body _ _ tt tt
-    by ToWait = if_can profile missing.responses _ _ (reads_no_ring profile Running refl) tt
-    by NoResponseRing = if_can profile missing.responses _ _ (reads_no_ring profile Running refl) tt
-    by (ToDeliver d n) =
-        if_can profile missing.responses _ _ (reads_no_ring profile Running refl)
-        (if_can profile missing.body _ _ (writes_no_packet profile Running refl) tt)
-    by _ = tt
-fate_fails profile _ missing looks plan = tt
+fate_fails profile phase missing looks plan = grind (arith, nat_tests)
 
 -- only a running port's turn has another fate than the usual one
 pub running_fails : (missing : Missing) (port : PortState) (memory : List ℕ)

@@ -1,8 +1,7 @@
 -- A turn is one of the cases of its plan.
-use Rattle.std.proofs.Common.{◌≡◌, ℕ, ◌<◌, Bool, true, false, List, [], ◌∷◌, length, Option, Some, None, Result, refl, sym, ap, subst, ◌∙◌, arith}
+use Rattle.std.proofs.lemmas.Bool.Decides.{nat_tests}
+use Rattle.std.proofs.Common.{◌≡◌, ℕ, ◌<◌, true, false, List, [], length, Option, Some, None, Result, refl, sym, ap, subst, ◌∙◌, arith}
 use Rattle.std.specs.Prelude.{option_map}
-use Rattle.std.proofs.lemmas.Bool.{cond_both}
-use Rattle.std.proofs.lemmas.Option.{slice_get_within}
 use Rattle.uda_packet.specs.declared.command.Command.{Command}
 use Rattle.uda_packet.specs.declared.guest_command.GuestCommand.{GuestCommand}
 use Rattle.uda_packet.specs.declared.reply.Reply.{Reply}
@@ -20,14 +19,12 @@ use Rattle.uda_port.specs.declared.phase.Phase.{Phase}
 use Rattle.uda_port.specs.declared.phase.Phase.TheVariants.{Running}
 use Rattle.uda_port.specs.declared.turn.Turn.{Turn}
 use Rattle.uda_port.specs.declared.plan.Plan.{Plan}
-use Rattle.uda_port.specs.declared.profile.Profile.{Profile}
 use Rattle.uda_port.specs.declared.phase.Fatal.TheVariants as fatal
 use Rattle.uda_port.specs.declared.turn.Turn.TheVariants as did
 use Rattle.uda_port.specs.declared.plan.Plan.TheVariants.{AtRest, NoCommandRing, ToFetch, ToExecute, NoMessage, ToWait, NoResponseRing, ToDeliver}
-use Rattle.uda_port.specs.Plan.{plan_later, plan_running, plan_in, next_size, plan_without_fetch, plan_of, Step, counted, stopped_polling, is_execution, is_executed, rest_turn, TurnIs, TurnCase, Rests, CommandRingLost, Unreadable, Exceeds, BadConnection, Fetches, Executes, DeliversEnd, Notifies, Waits, ResponseRingLost, NoRoom}
-use Rattle.uda_port.specs.declared.profile.Profile.TheVariants.{Strict, Compatible}
+use Rattle.uda_port.specs.Plan.{plan_later, plan_of, Step, counted, stopped_polling, is_execution, is_executed, rest_turn, TurnIs, TurnCase, Rests, CommandRingLost, Unreadable, Exceeds, BadConnection, Fetches, Executes, DeliversEnd, Notifies, Waits, ResponseRingLost, NoRoom}
 use Rattle.uda_port.specs.Ring.{is_owned, next_descriptor}
-use Rattle.uda_port.specs.Turn.{Unchanged, TurnEffect, RunningTurn, NothingToFetch, NothingToDeliver, ExecutesOne, ExecutesFor, Fails, InFetch, InRest, may_fetch, port_with_message}
+use Rattle.uda_port.specs.Turn.{Unchanged, TurnEffect, RunningTurn, NothingToFetch, NothingToDeliver, ExecutesOne, Fails, InFetch, InRest, may_fetch, port_with_message}
 use Rattle.uda_port.proofs.TurnLaws.{attention_first, first_text}
 
 -- ---- a turn is one of its cases
@@ -97,8 +94,7 @@ case_of turn s goes = case_by _ s turn goes (λ j x is. (j, (tt, x)))
 module _ (Is : ℕ → Type 0) (turn : Turn) (s : Step) where
   at_rest : (phase : Phase) → (phase ≡ Running → ⊥) → turn ≡ rest_turn phase
       → Unchanged s.old s.memory s.new s.memory_after → Goes s turn phase
-  at_rest Running rests answer same = absurd (rests refl)
-  at_rest _ rests answer same = assumption
+  at_rest phase rests answer same = grind (arith, nat_tests)
 
   running : {wanted : Turn} → TurnIs wanted turn s.old → RunningTurn s.old s.memory wanted s.new s.memory_after
       → Goes s turn s.old.phase
@@ -107,7 +103,7 @@ module _ (Is : ℕ → Type 0) (turn : Turn) (s : Step) where
   dead : {cause : Fatal} (before : PortState) → TurnIs did.Dead turn s.old
       → Fails cause (counted s) s.memory before s.memory_after → s.new ≡ failed_port before cause
       → Goes s turn s.old.phase
-  dead before d fails is = running d (record { cause = _; before = before; fails = fails; died = is })
+  dead before d fails is = grind (arith, nat_tests)
 
   pub effect_of : TurnCase Is turn s → TurnEffect s.old.phase s.old s.memory turn s.new s.memory_after
   effect_of (Rests rests answer same) = at_rest s.old.phase rests answer same
@@ -128,12 +124,7 @@ module _ (Is : ℕ → Type 0) (turn : Turn) (s : Step) where
 -- a command was pending that is executed
 pub some_executed : (old : PortState) (memory : List ℕ) (j : ℕ) (new : PortState) (memory_after : List ℕ)
     → ExecutesOne j old memory new memory_after → 0 < length old.exec.pending
-some_executed old memory j new memory_after x = by old.profile x.executes
-  where
-    by : (profile : Profile) → ExecutesFor profile j old.exec memory x.end new.exec memory_after
-        → 0 < length old.exec.pending
-    by Strict it = omega (arith, slice_get_within {A = Command})
-    by (Compatible identity) it = omega (arith, slice_get_within {A = Command})
+some_executed old memory j new memory_after x = grind (arith, nat_tests)
 
 module _ (port : PortState) (memory : List ℕ) where
   pub plan_rests : (port.phase ≡ Running → ⊥) → plan_of port memory ≡ AtRest
@@ -172,11 +163,7 @@ module _ (port : PortState) (memory : List ℕ) where
       Waiting : plan_of port memory ≡ ToWait → IsQuiet
 
     pub plan_quiet : NothingToDeliver port memory → IsQuiet
-    plan_quiet nothing = by (next_text port) refl
-      where
-        by : (text : Option (List ℕ)) → next_text port ≡ text → IsQuiet
-        by None next = NoneWaits (plan_speaks next)
-        by (Some text) next = let f = nothing text next in Waiting (plan_speaks next ∙ rw (f.is_next, f.not_owned))
+    plan_quiet nothing = grind (arith, nat_tests)
 
 -- ---- a turn executes a command exactly if that is the plan
 
@@ -204,14 +191,13 @@ module _ (Is : ℕ → Type 0) (turn : Turn) (s : Step) where
   -- another plan, and the turn that it leads to
   other : {p : Plan} {wanted : Turn} → plan_of s.old s.memory ≡ p → turn ≡ wanted → is_execution p ≡ false
       → is_executed wanted ≡ false → units_of s.new ≡ units_of s.old → Outcome Is turn s
-  other plan answer none never units = Other (ap is_execution plan ∙ none) (ap is_executed answer ∙ never) units
+  other plan answer none never units = grind (arith, nat_tests)
 
   -- a fetch that was planned
   taken : {wanted : Turn} {d : Descriptor} → TurnIs wanted turn s.old → may_fetch s.old ≡ true
       → next_descriptor s.memory s.old.commands ≡ Some d → is_owned d ≡ true → is_executed wanted ≡ false
       → units_of s.new ≡ units_of s.old → Outcome Is turn s
-  taken did looks next owned never units =
-      other (plan_fetches s.old s.memory _ did.runs looks next owned) did.answer refl never units
+  taken did looks next owned never units = grind (arith, nat_tests)
 
   pub outcome : TurnCase Is turn s → Outcome Is turn s
   outcome (Rests rests answer same) =
@@ -252,7 +238,7 @@ module _ (Is : ℕ → Type 0) (turn : Turn) (s : Step) where
 
   -- a turn that is to execute a command does
   pub executed_case : TurnCase Is turn s → plan_of s.old s.memory ≡ ToExecute → turn ≡ did.Executed
-  executed_case c plan = elim (outcome c) [ Executing to is j at x ↦ is | Other none never units ↦ cc ]
+  executed_case c plan = grind (arith, nat_tests)
 
 -- ---- a turn that executes the command at an index, if it executes one
 
@@ -294,20 +280,10 @@ module _ (port : PortState) (memory : List ℕ) where
   goes_on : (cs : List Command) (size : Option ℕ) (response : Option Descriptor) → port.phase ≡ Running
       → port.exec.pending ≡ cs → next_descriptor memory port.responses ≡ response
       → Here (plan_later cs size response)
-  goes_on (c ∷ cs) size response runs is next = record { runs = runs; pending = rw is (omega arith) }
-  goes_on [] (Some n) (Some d) runs is next = cond_both (is_owned d) _ _ Here (λ owned. assumption) (λ _. tt)
-  goes_on [] _ _ runs is next = tt
+  goes_on cs size response runs is next = grind (arith, nat_tests)
 
   pub follows : Here (plan_of port memory)
-  follows = by port.phase (may_fetch port) (next_descriptor memory port.commands) refl refl
-    where
-      by : (phase : Phase) (b : Bool) (command : Option Descriptor) → port.phase ≡ phase
-          → next_descriptor memory port.commands ≡ command
-          → Here (plan_in phase (plan_running b command (plan_without_fetch port memory)))
-      by Running false command runs next = goes_on _ (next_size port) _ runs refl refl
-      by Running true (Some d) runs next =
-          cond_both (is_owned d) _ _ Here (λ owned. assumption) (λ _. goes_on _ (next_size port) _ runs refl refl)
-      by _ _ _ runs next = tt
+  follows = grind (arith, nat_tests)
 
   pub execution : plan_of port memory ≡ ToExecute → IsExecution port
   execution is = subst Here is follows

@@ -1,10 +1,11 @@
 -- What is posted in a ring, from its next descriptor on; and that a fetch follows ring order.
+use Rattle.std.proofs.lemmas.Bool.Decides.{nat_tests}
 use Rattle.std.proofs.Common.{◌≡◌, ℕ, ◌^◌, mod-eq_of_lt, ◌+◌, ◌*◌, ◌%◌, ◌<◌, ◌≤◌, ◌⊎◌, inl, inr, Bool, true, false, List, [], ◌∷◌, ◌++◌, length, get_or, set, take, drop, Option, Some, None, refl, sym, ap, ap₂, ◌∙◌, arith, length-set}
 use Rattle.std.specs.Prelude.{nat_le, if◌then◌else◌}
 use Rattle.std.proofs.lemmas.List.{drop_more, append_assoc, append-nil, same_lists, get_or-set_same, get_or-set_other, drop-set-lt, take_more_set, drop_all, take_all}
 use Rattle.std.proofs.lemmas.List.FromFn.{length-map-range_with_len, get_or-map-range_with_len}
 use Rattle.std.proofs.Math.Nat.{mod_self}
-use Rattle.std.proofs.lemmas.Bool.{cases_eq, cases_lt, leb-true, lt-leb, le-leb}
+use Rattle.std.proofs.lemmas.Bool.{cases_eq, cases_lt, le-leb}
 use Rattle.uda_mem.specs.Put.{put}
 use Rattle.uda_mem.specs.Words.{word_at, word_bytes}
 use Rattle.uda_mem.proofs.PutLaws.{length-put}
@@ -89,13 +90,7 @@ descriptor_at-put_other memory at other word apart =
 
 pub descriptor_at-within : (memory : List ℕ) (at : ℕ) (d : Descriptor) → descriptor_at memory at ≡ Some d
     → at + 4 ≤ length memory
-descriptor_at-within memory at d h = go (nat_le (at + 4) (length memory)) refl h
-  where
-    go : (fits : Bool) → nat_le (at + 4) (length memory) ≡ fits
-        → (if fits then Some (record { low = word_at memory at; high = word_at memory (at + 2) }) else None)
-        ≡ Some d → at + 4 ≤ length memory
-    go true is h = leb-true (at + 4) (length memory) is
-    go false is h = absurd (cc)
+descriptor_at-within memory at d h = grind (arith, nat_tests)
 
 -- and the host owns that one afterwards
 descriptor_at-put_here : (memory : List ℕ) (at word : ℕ) → at + 4 ≤ length memory → word < 2 ^ 16
@@ -112,7 +107,7 @@ returned_word-fits : (high : ℕ) → returned_word high < 2 ^ 16
 returned_word-fits high = omega arith
 
 returned_word-free : (low high : ℕ) → is_owned (record { low = low; high = returned_word high }) ≡ false
-returned_word-free low high = lt-leb 32768 (returned_word high) (omega arith)
+returned_word-free low high = grind (arith, nat_tests)
 
 -- the ring after the return of a descriptor: the next descriptor is changed, and the others are unchanged
 ring_after : (memory : List ℕ) (r : RingState) (word : ℕ) → r.place < r.count

@@ -1,4 +1,5 @@
 -- What a word of initialization does, it does in every memory of the same length.
+use Rattle.std.proofs.lemmas.Bool.Decides.{nat_tests}
 use Rattle.std.proofs.Common.{◌≡◌, ℕ, Bool, true, false, List, [], ◌∷◌, length, replicate, refl, sym, ap, ap₂, ◌∙◌, arith}
 use Rattle.std.specs.Prelude.{◌+◌, ◌-◌, if◌then◌else◌}
 use Rattle.std.proofs.lemmas.List.{length-replicate}
@@ -6,7 +7,7 @@ use Rattle.uda_mem.specs.declared.range.ByteRange.{ByteRange}
 use Rattle.uda_mem.specs.Put.{part}
 use Rattle.uda_mem.specs.Ranges.{EMPTY_RANGE, carried}
 use Rattle.uda_mem.proofs.PutLaws.{put-nil}
-use Rattle.uda_mem.proofs.RangeLaws.{Write, ranges_of, length-carried, carried_puts}
+use Rattle.uda_mem.proofs.RangeLaws.{Write, ranges_of, carried_puts}
 use Rattle.uda_port.specs.declared.area.Area.{Area}
 use Rattle.uda_port.specs.declared.phase.Fatal.TheVariants.{InitializationError, RingWrite}
 use Rattle.uda_port.specs.declared.phase.Phase.{Phase}
@@ -105,11 +106,7 @@ no_bytes (x ∷ xs) none = absurd (omega arith)
 
 pub left_empty : (old : PortState) (word : ℕ) (after : PortState × List ℕ)
     → after ≡ after_sa_write old.phase old [] word → (after.0, []) ≡ after_sa_write old.phase old [] word
-left_empty old word after is =
-    let left = word_left old.phase old [] word after is in
-    let none = no_bytes after.1
-    (ap length left.only ∙ length-carried (range_zeroed old.phase old [] word ∷ []) after.1 []) in
-    ap₂ after_of refl (sym none) ∙ is
+left_empty old word after is = grind (arith, nat_tests)
 
 pub word_is_local : (old : PortState) (memory : List ℕ) (word : ℕ) (after : PortState × List ℕ)
     → WordEffect false (old, memory) word after

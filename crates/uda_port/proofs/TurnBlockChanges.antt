@@ -1,7 +1,9 @@
 -- A turn changes only the blocks that it uses.
+use Rattle.std.proofs.lemmas.Bool.Decides.{nat_tests}
+use Rattle.std.proofs.Common.{arith}
 use Rattle.std.proofs.Common.{◌≡◌, ℕ, false, List, [], Option, Some, None, refl, sym, ap, subst}
 use Rattle.uda_exec.specs.BlockChanges.{ChangesOnly}
-use Rattle.uda_exec.proofs.BlockChangesLaw.{only_used_blocks_change, leaves_all}
+use Rattle.uda_exec.proofs.BlockChangesLaw.{only_used_blocks_change}
 use Rattle.uda_port.specs.declared.memory_use.Missing.{Missing}
 use Rattle.uda_port.specs.declared.turn.Turn.{Turn}
 use Rattle.uda_port.specs.declared.turn_at.Fate.{Fate}
@@ -9,7 +11,6 @@ use Rattle.uda_port.specs.declared.turn_at.Fate.TheVariants.{Usual, FailsInFetch
 use Rattle.uda_port.specs.BlockUse.{memory_by, memory_executed, blocks_in, written_in, blocks_of, block_bytes_of}
 use Rattle.uda_port.specs.MemoryUse.{fate_of, EffectBy, EffectWithout, HasValidRings}
 use Rattle.uda_port.specs.declared.plan.Plan.{Plan}
-use Rattle.uda_port.specs.declared.plan.Plan.TheVariants.{ToExecute}
 use Rattle.uda_port.specs.Plan.{is_execution, plan_of}
 use Rattle.uda_port.specs.Port.{PortState}
 use Rattle.uda_port.specs.Turn.{ExecutesOne, may_fetch, port_turn_on, port_not_polling}
@@ -18,13 +19,11 @@ use Rattle.uda_port.proofs.PlanLaws.{Outcome, Executing, Other, outcome, units_o
 
 none_executed : (plan : Plan) (fate : Fate) (memory : List ℕ) → is_execution plan ≡ false
     → memory_executed plan fate memory ≡ None
-none_executed ToExecute fate memory is = absurd (cc)
-none_executed _ fate memory is = refl
+none_executed plan fate memory is = grind (arith, nat_tests)
 
 none_failed : (plan : Plan) (fate : Fate) (memory : List ℕ) → memory_by fate memory ≡ None
     → memory_executed plan fate memory ≡ None
-none_failed ToExecute fate memory is = is
-none_failed _ fate memory is = refl
+none_failed plan fate memory is = grind (arith, nat_tests)
 
 module _ (old : PortState) (memory : List ℕ) (j : ℕ) (new : PortState) (memory_after : List ℕ)
     (valid : HasValidRings old) where
@@ -41,7 +40,7 @@ module _ (old : PortState) (memory : List ℕ) (j : ℕ) (new : PortState) (memo
       (as_guest old.profile j old.exec given x.end new.exec after valid.strict x.executes)
 
   unchanged : (found : Option (List ℕ)) → found ≡ None → units_of new ≡ units_of old → Changes found
-  unchanged found none same = subst Changes (sym none) (leaves_all [] (units_of old) (units_of new) same)
+  unchanged found none same = grind (arith, nat_tests)
 
   by_fate : (missing : Missing) (f : Fate) (turn : Turn) → fate_of missing old memory ≡ f
       → EffectBy f j (old, memory) turn (new, memory_after) → Changes (memory_executed plan f memory)

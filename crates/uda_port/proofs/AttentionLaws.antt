@@ -1,8 +1,8 @@
 -- How soon an attention message that is due is delivered: what the effect of a turn says of it.
 use Rattle.std.proofs.lemmas.Bool.Decides.{nat_tests}
-use Rattle.std.proofs.Common.{◌≡◌, ◌≤◌, ◌<◌, ℕ, zero, suc, ◌+◌, Bool, true, false, List, [], ◌∷◌, ◌++◌, length, Option, Some, None, arith, refl, ap}
+use Rattle.std.proofs.Common.{◌≡◌, ◌≤◌, ◌<◌, ℕ, zero, suc, ◌+◌, Bool, true, false, List, [], ◌∷◌, ◌++◌, length, Some, None, arith, refl, ap}
 use Rattle.std.proofs.lemmas.List.{length-append, length-take, length-drop}
-use Rattle.std.specs.Prelude.{IsSome, set, take, drop, remove, slice_get, Result, Ok, Err, if◌then◌else◌}
+use Rattle.std.specs.Prelude.{set, take, drop, remove, slice_get, Result, Ok, Err, if◌then◌else◌}
 use Rattle.std.specs.List.{position_or_len, before_first, after_first}
 use Rattle.uda_packet.specs.declared.guest_command.GuestCommand.{GuestCommand}
 use Rattle.uda_packet.specs.declared.reply.Reply.{Reply}
@@ -102,9 +102,6 @@ with_message old (Err r) = omega (arith, by_profile old.profile r old.exec)
 
 -- ---- a turn
 
-some_of : {A : Type 0} (o : Option A) → IsSome o → (x : A) × (o ≡ Some x)
-some_of o is = grind (arith, nat_tests)
-
 module _ (old : PortState) (memory : List ℕ) (new : PortState) (memory_after : List ℕ)
     (may : MayNotify old memory) where
   running_first : (turn : Turn) → RunningTurn old memory turn new memory_after → goes_before_ends turn ≡ true
@@ -140,12 +137,6 @@ module _ (old : PortState) (memory : List ℕ) (new : PortState) (memory_after :
   nearer turn goes = running_nearer turn (runs turn goes)
 
 -- ---- the most of any port
-
-one_at_most : (b : Bool) → one_if b ≤ 1
-one_at_most b = grind (arith, nat_tests)
-
-four_at_most : (xs : List Bool) → due_count xs ≤ 4
-four_at_most xs = omega (arith, one_at_most)
 
 pub most_turns : (port : PortState) → CreditsAgree port → turns_to_notify port ≤ MOST_TURNS_TO_NOTIFY
 most_turns port agree = grind (arith, nat_tests)

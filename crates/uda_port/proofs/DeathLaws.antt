@@ -1,18 +1,15 @@
 -- The causes of fatal errors, from the effect of each event.
 use Rattle.std.proofs.lemmas.Bool.Decides.{nat_tests}
-use Rattle.std.proofs.Common.{◌≡◌, ◌≢◌, ℕ, ◌⊎◌, inl, inr, Bool, List, [], ◌∷◌, length, refl, ap, arith}
-use Rattle.std.specs.Prelude.{if◌then◌else◌}
+use Rattle.std.proofs.Common.{◌≡◌, ◌≢◌, ℕ, ◌⊎◌, inl, inr, List, [], ◌∷◌, refl, ap, arith}
 use Rattle.std.proofs.lemmas.List.Elements.{All-nil, All-cons, All-head, All-tail}
 use Rattle.uda_port.specs.declared.phase.Phase.{Phase}
 use Rattle.uda_port.specs.declared.phase.Fatal.{Fatal}
-use Rattle.uda_port.specs.declared.profile.Profile.{Profile}
 use Rattle.uda_port.specs.declared.turn.Turn.{Turn}
 use Rattle.uda_port.specs.declared.play.HostEvent.{HostEvent}
-use Rattle.uda_port.specs.declared.phase.Phase.TheVariants.{Step1, Step2, Step3, Running, Dead}
-use Rattle.uda_port.specs.declared.phase.Fatal.TheVariants.{RingWrite, InitializationError}
+use Rattle.uda_port.specs.declared.phase.Phase.TheVariants.{Running, Dead}
 use Rattle.uda_port.specs.declared.play.HostEvent.TheVariants.{WriteIp, ReadIp, WriteSa, Word, Turn as TurnEvent}
-use Rattle.uda_port.specs.Port.{PortState, port_in_phase}
-use Rattle.uda_port.specs.Startup.{has_bit, area_of, has_area, refuses_second, refuses_third, after_sa_write, failed_port, after_wrap_request}
+use Rattle.uda_port.specs.Port.{PortState}
+use Rattle.uda_port.specs.Startup.{after_sa_write, failed_port}
 use Rattle.uda_port.specs.Plan.{Step, counted}
 use Rattle.uda_port.proofs.PlanLaws.{AnyCase, case_of, step_of}
 use Rattle.uda_port.specs.Events.{EventEffect, EventsEffect, FatalTurn, FatalWord, MeetsCause, LeavesIp, DiedAtEvent, StaysDead, DeathHasCause}
@@ -21,39 +18,11 @@ use Rattle.uda_port.specs.Events.{EventEffect, EventsEffect, FatalTurn, FatalWor
 phases : {a b : PortState} → a ≡ b → a.phase ≡ b.phase
 phases is = grind (arith, nat_tests)
 
-first : {a b : PortState × List ℕ} → a ≡ b → a.0 ≡ b.0
-first is = grind (arith, nat_tests)
-
 -- ---- a word of initialization
 
 module _ (cause : Fatal) (word : ℕ) (old new : PortState) (memory : List ℕ) (dead : new.phase ≡ Dead cause) where
   abbrev IsFatal : Type 0
   IsFatal = FatalWord cause word old memory
-
-  -- a port that failed after a word is dead of the cause that the word met
-  of_word : {met : Fatal} → new ≡ failed_port old met → FatalWord met word old memory → IsFatal
-  of_word {met = met} is fatal =
-      let same : met ≡ cause = cc (phases is) in rw same at fatal
-
-  first_word : (step wrap : Bool) (profile : Profile) (asked : PortState) → old.phase ≡ Step1
-      → old.profile ≡ profile → has_bit word 15 ≡ step → has_bit word 14 ≡ wrap
-      → new ≡ (if step then (if wrap then after_wrap_request profile old word else asked) else old)
-      → asked.phase ≡ Step2 word → IsFatal
-  first_word step wrap profile asked p q x6 x7 is asks = grind (arith, nat_tests)
-
-  second_word : (profile : Profile) (refuses : Bool) {first : ℕ} → old.phase ≡ Step2 first → old.profile ≡ profile
-      → refuses_second profile word ≡ refuses
-      → new ≡ (if refuses then failed_port old InitializationError else port_in_phase old (Step3 first word))
-      → IsFatal
-  second_word profile refuses p q purge is = grind (arith, nat_tests)
-
-  third_word : (profile : Profile) (refuses has : Bool) (set : PortState × List ℕ) {one two : ℕ} {after : List ℕ}
-      → old.phase ≡ Step3 one two → old.profile ≡ profile → refuses_third profile word ≡ refuses
-      → has_area (area_of profile one two word) (length memory) ≡ has
-      → ◌≡◌ {A = PortState × List ℕ} (new, after) (if refuses then (failed_port old InitializationError, memory)
-      else if has then set else (failed_port old RingWrite, memory))
-      → (set.0.phase ≡ Dead cause → ⊥) → IsFatal
-  third_word profile refuses has set p q high area is lives = grind (arith, nat_tests)
 
   -- a port that is dead after a word was dead before it, or the word was fatal
   fatal_word : (p : Phase) {after : List ℕ} → old.phase ≡ p → (new, after) ≡ after_sa_write p old memory word
@@ -72,10 +41,6 @@ module _ (cause : Fatal) (turn : Turn) (s : Step) (dead : s.new.phase ≡ Dead c
   met {x = x} before runs is fatal =
       let same : x ≡ cause = cc (phases is) in
       inr (runs, rw same at fatal)
-
-  -- the port runs as before
-  lives : s.old.phase ≡ Running → s.new.phase ≡ s.old.phase → Met
-  lives runs same = absurd (cc)
 
   -- a port that is dead after a turn was dead before it, or the turn met a cause
   fatal_turn : AnyCase turn s → Met

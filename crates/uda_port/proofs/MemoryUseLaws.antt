@@ -1,10 +1,9 @@
 -- What a turn does, it does in each memory that agrees where the turn reads.
-use Rattle.std.proofs.Common.{◌≡◌, ℕ, zero, suc, ◌+◌, ◌-◌, ◌%◌, ◌<◌, ◌≤◌, min, Bool, true, false, List, [], ◌∷◌, length, Option, Some, None, refl, sym, ap, subst, ◌∙◌, arith, length-append}
-use Rattle.std.specs.Prelude.{◌++◌, All, nat_eq, slice_get, if◌then◌else◌}
+use Rattle.std.proofs.Common.{◌≡◌, ℕ, zero, suc, ◌+◌, ◌-◌, ◌<◌, ◌≤◌, min, Bool, true, false, List, [], ◌∷◌, length, Option, Some, None, refl, sym, ap, subst, ◌∙◌, arith, length-append}
+use Rattle.std.specs.Prelude.{◌++◌, All, nat_eq, slice_get}
 use Rattle.std.proofs.lemmas.Bool.{eq-eqb}
 use Rattle.std.proofs.lemmas.Bool.Decides.{nat_tests}
 use Rattle.std.proofs.lemmas.List.Elements.{All-cons, All-head, All-tail}
-use Rattle.std.proofs.lemmas.Option.{slice_get_past}
 use Rattle.uda_disk.proofs.Lists.{slice_get-last}
 use Rattle.uda_mem.specs.declared.range.ByteRange.{ByteRange}
 use Rattle.uda_mem.specs.Put.{put, part}
@@ -16,11 +15,10 @@ use Rattle.uda_mem.proofs.RangeLaws.{Write, ranges_of, puts, carried_puts, part_
 use Rattle.uda_packet.specs.declared.command.Command.{Command}
 use Rattle.uda_packet.specs.declared.guest_command.GuestCommand.{GuestCommand}
 use Rattle.uda_packet.specs.declared.guest_command.GuestOp.{GuestOp}
-use Rattle.uda_packet.specs.declared.guest_command.GuestOp.TheVariants.{Basic}
 use Rattle.uda_packet.specs.declared.command.Op.{Op}
 use Rattle.uda_packet.specs.declared.reply.Reply.{Reply}
 use Rattle.uda_exec.specs.BufferUse.{used_length, changed_length, read_length, moved_length, bytes_moved, buffer_use, buffer_use_at}
-use Rattle.uda_exec.specs.Commands.{buffer_start, buffer_length, memory_read_length}
+use Rattle.uda_exec.specs.Commands.{buffer_start}
 use Rattle.uda_exec.specs.Disks.{ExecState}
 use Rattle.uda_exec.specs.GuestExecution.{ExecutesGuestAt}
 use Rattle.uda_exec.specs.GuestOps.{op_at}
@@ -40,7 +38,7 @@ use Rattle.uda_port.specs.declared.memory_use.Missing.{Missing}
 use Rattle.uda_port.specs.declared.turn_at.Fate.{Fate}
 use Rattle.uda_port.specs.declared.turn_at.Fate.TheVariants.{Usual, FailsInFetch, FailsLater, WithoutBuffer}
 use Rattle.uda_port.specs.Ring.{RingState, descriptor_address, next_descriptor, memory_returned, returned_word}
-use Rattle.uda_port.specs.Interrupt.{ring_before, indicator_at, memory_with_indicator, IsBelow, word_below}
+use Rattle.uda_port.specs.Interrupt.{ring_before, indicator_at, memory_with_indicator, IsBelow}
 use Rattle.uda_port.specs.Packet.{HasText, HasPacket, IsPacketAt, HasRoom, packet_put, text_address}
 use Rattle.uda_port.specs.Report.{end_text, next_text}
 use Rattle.uda_port.specs.Port.{PortState, command_indicator, response_indicator, next_grant}
@@ -64,10 +62,6 @@ text_true memory at n h = grind (arith, nat_tests)
 
 text_from : (memory : List ℕ) (at n : ℕ) → has_text memory at n ≡ true → HasText memory at n
 text_from memory at n h = grind (arith, nat_tests)
-
-pub text_iff : (memory : List ℕ) (at n : ℕ) (b : Bool) → (b ≡ true → HasText memory at n)
-    → (HasText memory at n → b ≡ true) → b ≡ has_text memory at n
-text_iff memory at n b has is = grind (arith, nat_tests)
 
 -- a test that doesn't hold
 fails : (P : Type 0) (a : Bool) → (a ≡ true → P) → (P → ⊥) → a ≡ false
@@ -234,9 +228,6 @@ put_empty memory other = put-nil other 0
 carried_none : (memory other : List ℕ) → carried NONE_WRITTEN memory other ≡ other
 carried_none memory other = simp put_empty
 
-op_none : (j : ℕ) → op_at [] j ≡ Basic
-op_none j = grind (arith, slice_get_past)
-
 -- a command of a strict port has no additional operation
 pub as_guest : (profile : Profile) (j : ℕ) (old : ExecState) (memory : List ℕ) (r : Reply) (new : ExecState)
     (memory_after : List ℕ) → (profile ≡ Strict → old.guest_ops ≡ [])
@@ -248,10 +239,6 @@ buffer_is : (exec : ExecState) (j : ℕ) (c : Command) → slice_get exec.pendin
     → buffer_use_at exec j ≡ Some (buffer_use (record { command = c; op = op_at exec.guest_ops j }))
 buffer_is exec j c stands =
     rw stands
-
--- it reads no more than it uses
-reads_few : (op : Op) → memory_read_length op ≤ buffer_length op
-reads_few op = grind (arith, nat_tests)
 
 reads_used : (o : GuestOp) (op : Op) → read_length o op ≤ used_length o op
 reads_used o op = grind (arith, nat_tests)
@@ -280,23 +267,9 @@ newest_is : (port : PortState) (queued : List Reply) (r : Reply) → port.waitin
 newest_is port queued r is =
     rw (is, slice_get-last queued (length (queued ++ r ∷ []) - 1) r (omega (arith, length-append queued (r ∷ []))))
 
-below_if : (indicator : Option ℕ) (b : Bool) (base : ℕ) → IsBelow indicator base
-    → IsBelow (if b then indicator else None) base
-below_if indicator b base h = grind (arith, nat_tests)
-
-below_word : (base above : ℕ) → base % 2 ≡ 0 → base ≤ above → IsBelow (word_below base 4) above
-below_word base above even less = grind (arith, nat_tests)
-
-below_at : (profile : Profile) (indicator : Option ℕ) (memory : List ℕ) (r : RingState) (base : ℕ)
-    → IsBelow indicator base → IsBelow (indicator_at profile indicator memory r) base
-below_at profile indicator memory r base h = grind (arith, nat_tests)
-
 command_below : (port : PortState) (memory : List ℕ) → HasValidRings port
     → IsBelow (command_indicator port memory) port.commands.base
 command_below port memory valid = grind (arith, nat_tests)
-
-has_above : (profile : Profile) (memory : List ℕ) (at n : ℕ) → HasRoom profile memory at n → 4 ≤ at
-has_above profile memory at n h = grind arith
 
 -- the settings of a delivery with this many credits
 abbrev delivery_with : PortState → ℕ → Option ℕ → Delivery
@@ -712,20 +685,8 @@ pub no_bytes : (xs : List ℕ) → length xs ≡ 0 → xs ≡ []
 no_bytes [] none = refl
 no_bytes (x ∷ xs) none = absurd (omega arith)
 
-pub all_four : (P : ByteRange → Type 0) (a b c d : ByteRange) → P a → P b → P c → P d
-    → All P (a ∷ b ∷ c ∷ d ∷ [])
-all_four P a b c d ha hb hc hd = grind (arith, nat_tests)
-
 pub none_lies : (memory : List ℕ) → All (LiesIn memory) NONE_WRITTEN
 none_lies memory = grind (arith, nat_tests)
-
-lies_indicator : (indicator : Option ℕ) (base : ℕ) (memory : List ℕ) → IsBelow indicator base
-    → base ≤ length memory → LiesIn memory (indicator_range indicator)
-lies_indicator indicator base memory below within = grind arith
-
-room_fits : (profile : Profile) (memory : List ℕ) (at n : ℕ) → n ≤ 48 → HasRoom profile memory at n
-    → at + n ≤ length memory
-room_fits profile memory at n short h = grind arith
 
 pub delivery_lies : (port : PortState) (memory : List ℕ) (text : ByteRange) (indicator : Option ℕ)
     → text.bytes ≤ 48 → HasRoom port.profile memory text.at text.bytes → IsBelow indicator port.responses.base
@@ -778,10 +739,6 @@ after_lies memory ToExecute n (r ∷ rest) lies =
     let first = All-head P r rest lies in
     All-cons P (first_of r n) rest (omega (arith, first)) (All-tail P r rest lies)
 after_lies memory _ n ranges lies = lies
-
-if_can : (profile : Profile) (b : Bool) (x y : Fate) → CanFail profile Running x → CanFail profile Running y
-    → CanFail profile Running (if b then x else y)
-if_can profile b x y h k = grind (arith, nat_tests)
 
 -- a port that can have the fate of its turn
 pub fate_fails : (profile : Profile) (phase : Phase) (missing : Missing) (looks : Bool) (plan : Plan)

@@ -2,7 +2,6 @@
 use Rattle.std.proofs.lemmas.Bool.Decides.{nat_tests}
 use Rattle.std.proofs.Common.{◌≡◌, ℕ, ◌<◌, true, false, List, [], length, Option, Some, None, Result, refl, sym, ap, subst, ◌∙◌, arith}
 use Rattle.std.specs.Prelude.{option_map}
-use Rattle.uda_packet.specs.declared.command.Command.{Command}
 use Rattle.uda_packet.specs.declared.guest_command.GuestCommand.{GuestCommand}
 use Rattle.uda_packet.specs.declared.reply.Reply.{Reply}
 use Rattle.uda_disk.specs.Units.{Units}
@@ -236,10 +235,6 @@ module _ (Is : ℕ → Type 0) (turn : Turn) (s : Step) where
       let l = line.no_room in
       other (plan_delivers _ _ d.runs reaches _ _ line.is_next l.is_next l.owned) d.answer refl refl (rw same.state)
 
-  -- a turn that is to execute a command does
-  pub executed_case : TurnCase Is turn s → plan_of s.old s.memory ≡ ToExecute → turn ≡ did.Executed
-  executed_case c plan = grind (arith, nat_tests)
-
 -- ---- a turn that executes the command at an index, if it executes one
 
 abbrev pub step_of : PortState × List ℕ → PortState × List ℕ → Step
@@ -276,11 +271,6 @@ Follows port memory _ = Unit {0}
 module _ (port : PortState) (memory : List ℕ) where
   abbrev Here : Plan → Type 0
   Here plan = Follows port memory plan
-
-  goes_on : (cs : List Command) (size : Option ℕ) (response : Option Descriptor) → port.phase ≡ Running
-      → port.exec.pending ≡ cs → next_descriptor memory port.responses ≡ response
-      → Here (plan_later cs size response)
-  goes_on cs size response runs is next = grind (arith, nat_tests)
 
   pub follows : Here (plan_of port memory)
   follows = grind (arith, nat_tests)

@@ -4,7 +4,7 @@ use Rattle.std.proofs.Common.{◌≡◌, ◌≢◌, ℕ, ◌+◌, ◌*◌, ◌�
 use Rattle.uda_packet.specs.declared.guest_end.Identity.{Identity}
 use Rattle.uda_port.specs.declared.interrupt.Interrupts.{Interrupts}
 use Rattle.uda_port.specs.declared.phase.Fatal.{Fatal}
-use Rattle.uda_port.specs.declared.phase.Fatal.TheVariants.{RingWrite, InitializationError, RingRead, PacketRead, PacketWrite, CreditsExceeded}
+use Rattle.uda_port.specs.declared.phase.Fatal.TheVariants.{RingWrite, InitializationError, RingRead, PacketWrite, CreditsExceeded}
 use Rattle.uda_port.specs.declared.phase.Phase.{Phase}
 use Rattle.uda_port.specs.declared.phase.Phase.TheVariants.{Step1, Step2, Step3, Wrap, PurgeTest, PollTest, Step4, Running, Dead}
 use Rattle.uda_port.specs.declared.port.Port.TheInside.{Inside}
@@ -13,7 +13,7 @@ use Rattle.uda_port.specs.declared.profile.Profile.TheVariants.{Strict, Compatib
 use Rattle.uda_port.specs.Interrupt.{raised_by_step, raised, interrupts_asked, noted}
 use Rattle.uda_port.specs.PortInvariant.{PortInvariant, IsPossible}
 use Rattle.uda_port.specs.Port.{PortState, port_after_ip_read}
-use Rattle.uda_port.specs.Possible.{is_of_turn, has_run, has_rings, has_phase, CanDie, is_step_3, is_past_steps, settings_fit, is_strict_phase, is_guest_phase, can_interrupt, rings_fit, addresses_by, guest_fits, queue_fits, HasNoWork}
+use Rattle.uda_port.specs.Possible.{has_run, has_rings, has_phase, CanDie, is_step_3, is_past_steps, settings_fit, is_strict_phase, is_guest_phase, can_interrupt, rings_fit, addresses_by, guest_fits, queue_fits, HasNoWork}
 use Rattle.uda_port.specs.Ring.{RingState}
 use Rattle.uda_port.specs.Startup.{has_bit, refuses_second, refuses_third, asks_test, after_sa_write}
 use Rattle.uda_port.proofs.PossibleLaws.{same_guest, by_death, by_step, by_indicator, rings_move}
@@ -55,19 +55,10 @@ pub takes_first : {S : Type 0} (p : Inside S) (word : ℕ) → p.phase ≡ Step1
     })
 takes_first p word step one two is = grind (arith, nat_tests)
 
--- wrap mode, which only a compatible port has
-has_wrap : (profile : Profile) (word : ℕ) (identity : Identity) → profile ≡ Compatible identity
-    → has_phase profile (Wrap word) ≡ true
-has_wrap profile word identity is = grind (arith, nat_tests)
-
 pub wraps : {S : Type 0} (p : Inside S) (word : ℕ) (identity : Identity) → p.phase ≡ Step1
     → p.profile ≡ Compatible identity → PortInvariant p
     → PortInvariant (record p { phase = Wrap word })
 wraps p word identity step guest is = grind (arith, nat_tests)
-
-wrap_again : (profile : Profile) (before word : ℕ) → has_phase profile (Wrap before) ≡ true
-    → has_phase profile (Wrap word) ≡ true
-wrap_again profile before word is = grind (arith, nat_tests)
 
 pub wraps_again : {S : Type 0} (p : Inside S) (before word : ℕ) → p.phase ≡ Wrap before → PortInvariant p
     → PortInvariant (record p { phase = Wrap word })
@@ -75,20 +66,12 @@ wraps_again p before word step is = grind (arith, nat_tests)
 
 -- ---- the second word
 
-second_accepted : (profile : Profile) (first second : ℕ) → has_phase profile (Step2 first) ≡ true
-    → refuses_second profile second ≡ false → has_phase profile (Step3 first second) ≡ true
-second_accepted profile first second is taken = grind (arith, nat_tests)
-
 pub takes_second : {S : Type 0} (p : Inside S) (first word : ℕ) → p.phase ≡ Step2 first
     → refuses_second p.profile word ≡ false → PortInvariant p
     → PortInvariant (record p { phase = Step3 first word; interrupts = raised_by_step p.profile p.interrupts })
 takes_second p first word step taken is = grind (arith, nat_tests)
 
 -- ---- the tests
-
-poll_follows : (profile : Profile) → has_phase profile PurgeTest ≡ true → has_phase profile PollTest ≡ true
-poll_follows Strict is = is
-poll_follows _ is = is
 
 pub passes_purge : {S : Type 0} (p : Inside S) → p.phase ≡ PurgeTest → PortInvariant p
     → PortInvariant (record p { phase = PollTest })
@@ -225,15 +208,8 @@ ignores_word phase old memory word is = grind (arith, nat_tests)
 
 -- ---- the fatal errors of a turn
 
-runs_into : (profile : Profile) (phase : Phase) (cause : Fatal) → phase ≡ Running → is_of_turn cause ≡ true
-    → has_phase profile (Dead cause) ≡ true → CanDie profile phase cause
-runs_into profile phase cause runs of_turn fatal = grind (arith, nat_tests)
-
 pub reads_no_ring : (profile : Profile) (phase : Phase) → phase ≡ Running → CanDie profile phase RingRead
 reads_no_ring profile phase runs = grind (arith, nat_tests)
-
-pub reads_no_packet : (profile : Profile) (phase : Phase) → phase ≡ Running → CanDie profile phase PacketRead
-reads_no_packet profile phase runs = grind (arith, nat_tests)
 
 pub writes_no_packet : (profile : Profile) (phase : Phase) → phase ≡ Running → CanDie profile phase PacketWrite
 writes_no_packet profile phase runs = grind (arith, nat_tests)

@@ -1,20 +1,13 @@
 -- What keeps a port's state possible.
 use Rattle.std.proofs.lemmas.Bool.Decides.{nat_tests}
 use Rattle.std.proofs.Common.{◌≡◌, ℕ, ◌+◌, ◌<◌, ◌==◌, zero, suc, Bool, true, false, ◌&&◌, ◌||◌, List, [], ◌∷◌, ◌++◌, refl, sym, ◌∙◌, add-one, arith}
-use Rattle.std.specs.Prelude.{if◌then◌else◌, not, nat_lt, set, drop, get_or, length, Option, Some, None, IfSome, is_some, Result, Err}
+use Rattle.std.specs.Prelude.{if◌then◌else◌, not, set, drop, get_or, length, Option, Some, None, IfSome, is_some, Result, Err}
 use Rattle.std.proofs.lemmas.Bool.{and_parts, and_from}
-use Rattle.uda_exec.specs.Saved.{same_flag}
 use Rattle.uda_exec.specs.declared.scheduler.Position.{Position}
 use Rattle.uda_exec.specs.Disks.{FIRST_POSITION, ExecState}
 use Rattle.uda_packet.specs.declared.reply.Reply.{Reply}
-use Rattle.uda_packet.specs.declared.bad.Bad.{Bad}
-use Rattle.uda_packet.specs.declared.command.Command.{Command}
-use Rattle.uda_packet.specs.declared.end.End.{End}
 use Rattle.uda_packet.specs.declared.guest_command.GuestCommand.{GuestCommand}
-use Rattle.uda_packet.specs.declared.guest_command.GuestOp.TheVariants.{Basic}
 use Rattle.uda_packet.specs.declared.guest_end.Identity.{Identity}
-use Rattle.uda_packet.specs.Guest.{asked_as, reply_to_bad}
-use Rattle.uda_packet.specs.Reply.{basic_reply}
 use Rattle.uda_exec.specs.GuestExecution.{ExecutesGuestAt}
 use Rattle.uda_port.specs.AtOnce.{replies_at_once}
 use Rattle.uda_port.specs.declared.packet.Fetched.{Fetched}
@@ -27,12 +20,12 @@ use Rattle.uda_port.specs.declared.guest.Guest.{Guest}
 use Rattle.uda_port.specs.declared.interrupt.Interrupts.{Interrupts}
 use Rattle.uda_port.specs.declared.phase.Fatal.{Fatal}
 use Rattle.uda_port.specs.declared.phase.Phase.{Phase}
-use Rattle.uda_port.specs.declared.phase.Phase.TheVariants.{Step1, Step2, Step3, Step4, Running, Dead}
+use Rattle.uda_port.specs.declared.phase.Phase.TheVariants.{Step1, Running, Dead}
 use Rattle.uda_port.specs.declared.profile.Profile.{Profile}
 use Rattle.uda_port.specs.declared.profile.Profile.TheVariants.{Strict, Compatible}
 use Rattle.uda_port.specs.Guest.{guest_restarted, attention_set, guest_after, is_online_now, first_due}
-use Rattle.uda_port.specs.Interrupt.{NO_INTERRUPTS, interrupts_asked, raised, raised_by_step, noted, served, vector_of, IsVectorAddress}
-use Rattle.uda_port.specs.Possible.{has_run, has_rings, is_vector, are_asked_by, settings_fit, can_interrupt, is_silent, rings_fit, none_due, is_guest_running, guest_fits, is_basic_body, are_basic, queue_fits, HasNoWork, is_first_position}
+use Rattle.uda_port.specs.Interrupt.{NO_INTERRUPTS, raised, raised_by_step, noted, served, vector_of, IsVectorAddress}
+use Rattle.uda_port.specs.Possible.{has_run, can_interrupt, rings_fit, none_due, is_guest_running, guest_fits, is_basic_body, are_basic, queue_fits, HasNoWork, is_first_position}
 use Rattle.uda_port.specs.PortInvariant.{IsPossible}
 use Rattle.uda_port.specs.declared.port.Port.TheInside.{Inside}
 use Rattle.uda_port.specs.Ring.{RingState}
@@ -47,28 +40,6 @@ starts guest p step silent responses commands restarted none = grind (arith, nat
 
 -- ---- interrupts
 
--- raised requests of silent settings, and of others
-silent_raised : (e q : Bool) (v : ℕ) → (not e && ((v == 0) && not q)) ≡ true
-    → (not e && ((v == 0) && not (q || (e && nat_lt 0 v)))) ≡ true
-silent_raised e q v is = grind (arith, nat_tests)
-
-may_by_step : (e q v past : Bool) → (not q || (v && (e || past))) ≡ true
-    → (not (q || (e && v)) || (v && (e || past))) ≡ true
-may_by_step e q v past is = grind (arith, nat_tests)
-
-may_by_event : (e q v : Bool) → (not q || (v && (e || true))) ≡ true
-    → (not (q || v) || (v && (e || true))) ≡ true
-may_by_event e q v is = grind (arith, nat_tests)
-
--- a request that could be pending can still be when more can have raised it
-may_later : (e q v past : Bool) → (not q || (v && (e || past))) ≡ true → (not q || (v && (e || true))) ≡ true
-may_later e q v past is = grind (arith, nat_tests)
-
-settings_by_step : (phase : Phase) (e q : Bool) (v : ℕ)
-    → settings_fit phase (record { enabled = e; vector = v; requested = q }) ≡ true
-    → settings_fit phase (record { enabled = e; vector = v; requested = q || (e && nat_lt 0 v) }) ≡ true
-settings_by_step phase e q v is = grind (arith, nat_tests)
-
 -- a step of initialization may raise a request
 pub by_step : (profile : Profile) (phase : Phase) (i : Interrupts) → can_interrupt profile phase i ≡ true
     → can_interrupt profile phase (raised_by_step profile i) ≡ true
@@ -79,62 +50,14 @@ pub by_indicator : (profile : Profile) (phase : Phase) (indicator : Option ℕ) 
     → can_interrupt profile phase i ≡ true → can_interrupt profile phase (noted indicator profile i) ≡ true
 by_indicator profile phase indicator i runs is = grind (arith, nat_tests)
 
--- the vector of any settings
-silent_vector : (i : Interrupts) → is_silent i ≡ true → is_vector i.vector ≡ true
-silent_vector i is = grind (arith, nat_tests)
-
-asked_vector : (first : ℕ) (i : Interrupts) → are_asked_by first i ≡ true → is_vector i.vector ≡ true
-asked_vector first i is = grind (arith, nat_tests)
-
-has_vector_form : (phase : Phase) (i : Interrupts) → settings_fit phase i ≡ true → is_vector i.vector ≡ true
-has_vector_form phase i is = grind (arith, nat_tests)
-
 -- a port that dies
 pub by_death : (profile : Profile) (phase : Phase) (cause : Fatal) (i : Interrupts)
     → can_interrupt profile phase i ≡ true → can_interrupt profile (Dead cause) (raised profile i) ≡ true
 by_death profile phase cause i is = grind (arith, nat_tests)
 
--- the first word has asked for interrupts
-same : (flag : Bool) → same_flag flag flag ≡ true
-same true = refl
-same _ = refl
-
-pub by_first_word : (profile : Profile) (first : ℕ) (i : Interrupts) → can_interrupt profile Step1 i ≡ true
-    → can_interrupt profile (Step2 first) (interrupts_asked profile i first) ≡ true
-by_first_word profile first i is = grind (arith, nat_tests)
-
--- the third word ends the steps that have it
-pub by_third_word : (profile : Profile) (first second : ℕ) (i : Interrupts)
-    → can_interrupt profile (Step3 first second) i ≡ true → can_interrupt profile Step4 i ≡ true
-by_third_word profile first second i is = grind (arith, nat_tests)
-
-pub by_go : (profile : Profile) (i : Interrupts) → can_interrupt profile Step4 i ≡ true
-    → can_interrupt profile Running i ≡ true
-by_go profile i is = grind (arith, nat_tests)
-
--- the emulator takes the request
-silent_served : (i : Interrupts) → is_silent i ≡ true → is_silent (served i) ≡ true
-silent_served i is = grind (arith, nat_tests)
-
-settings_served : (phase : Phase) (i : Interrupts) → settings_fit phase i ≡ true
-    → settings_fit phase (served i) ≡ true
-settings_served phase i is = grind (arith, nat_tests)
-
 pub by_service : (profile : Profile) (phase : Phase) (old new : Interrupts) → new ≡ served old
     → can_interrupt profile phase old ≡ true → can_interrupt profile phase new ≡ true
 by_service profile phase old new now is = grind (arith, nat_tests)
-
--- the vector of a request that can be pending
-is_address : (v : ℕ) → is_vector v ≡ true → 0 < v → IsVectorAddress v
-is_address v is some = grind (arith, nat_tests)
-
-requested_address : (profile : Profile) (phase : Phase) (i : Interrupts) → can_interrupt profile phase i ≡ true
-    → i.requested ≡ true → IsVectorAddress i.vector
-requested_address profile phase i is requested = grind (arith, nat_tests)
-
-address_by : (q : Bool) (v : ℕ) → (q ≡ true → IsVectorAddress v)
-    → IfSome (if q then Some v else None) (λ (vector : ℕ). IsVectorAddress vector)
-address_by q v is = grind (arith, nat_tests)
 
 pub address_of_request : (profile : Profile) (phase : Phase) (i : Interrupts) → can_interrupt profile phase i ≡ true
     → IfSome (vector_of i) (λ (vector : ℕ). IsVectorAddress vector)
@@ -142,24 +65,9 @@ address_of_request profile phase i is = grind (arith, nat_tests)
 
 -- ---- rings and work: what depends only on whether the port has rings and has run
 
-pub same_rings : (profile : Profile) (phase next : Phase) (responses commands : RingState)
-    → has_rings next ≡ has_rings phase → has_run next ≡ has_run phase
-    → rings_fit profile phase responses commands ≡ true → rings_fit profile next responses commands ≡ true
-same_rings profile phase next responses commands rings run is = rw (rings, run) is
-
 pub same_guest : (profile : Profile) (phase next : Phase) (guest : Guest) → has_run next ≡ has_run phase
     → guest_fits profile phase guest ≡ true → guest_fits profile next guest ≡ true
 same_guest profile phase next guest run is = grind (arith, nat_tests)
-
--- the go bit starts the port
-pub go_rings : (profile : Profile) (responses commands : RingState)
-    → rings_fit profile Step4 responses commands ≡ true → rings_fit profile Running responses commands ≡ true
-go_rings profile responses commands is = grind (arith, nat_tests)
-
-pub go_guest : (profile : Profile) (guest : Guest) → guest_fits profile Step4 guest ≡ true
-    → guest_fits profile Running guest ≡ true
-go_guest Strict guest is = is
-go_guest _ guest is = refl
 
 -- the rings of a running port move their indices only
 pub rings_move : (profile : Profile) (phase : Phase) (a b c d : RingState) → phase ≡ Running → c.base ≡ a.base
@@ -264,14 +172,6 @@ queue_answered _ old r exec basic is = refl
 pub queue_less : (profile : Profile) (old : List Reply) (first : Reply) (rest : List Reply) → old ≡ first ∷ rest
     → queue_fits profile old ≡ true → queue_fits profile rest ≡ true
 queue_less profile old first rest are is = grind (arith, nat_tests)
-
--- the end message of an invalid command
-basic_of : (e : End) (r : Reply) → basic_reply e ≡ r → is_basic_body r.body ≡ true
-basic_of e r is = rw (← is) refl
-
-bad_by : (fits : Bool) (read : Result Command Bad) (e : End) (r : Reply)
-    → (if fits then asked_as Basic (reply_to_bad read) else Err (basic_reply e)) ≡ Err r → is_basic_body r.body ≡ true
-bad_by fits read e r is = grind (arith, nat_tests)
 
 pub strict_refusal : (profile : Profile) (p : Fetched) (r : Reply) → message_in profile p ≡ Err r
     → profile ≡ Strict → is_basic_body r.body ≡ true

@@ -99,11 +99,6 @@ word_left : (p : Phase) (old : PortState) (memory : List ℕ) (word : ℕ) (afte
 word_left (Step3 first second) old memory word after is = third_word old memory first second word after is
 word_left _ old memory word after is = leaves _ memory after is
 
--- a memory without bytes stays one
-no_bytes : (bytes : List ℕ) → length bytes ≡ 0 → bytes ≡ []
-no_bytes [] none = refl
-no_bytes (x ∷ xs) none = absurd (omega arith)
-
 pub left_empty : (old : PortState) (word : ℕ) (after : PortState × List ℕ)
     → after ≡ after_sa_write old.phase old [] word → (after.0, []) ≡ after_sa_write old.phase old [] word
 left_empty old word after is = grind (arith, nat_tests)

@@ -6,12 +6,7 @@ use Rattle.uda_port.specs.declared.trace.Trace.{Trace}
 use Rattle.uda_port.specs.declared.turn.Turn.{Turn}
 use Rattle.uda_port.specs.declared.turn.Turn.TheVariants as turn
 use Rattle.uda_port.specs.Port.{PortState}
-use Rattle.uda_port.specs.Trace.{Traces, TracesAnswer, Reports}
-
--- a record depends on the pending commands and the queued end messages before the turn
-pub traces_from : (old other new : PortState) (trace : Trace) → other.exec ≡ old.exec
-    → other.waiting ≡ old.waiting → Traces trace other new → Traces trace old new
-traces_from old other new trace exec waiting it = grind (arith, nat_tests)
+use Rattle.uda_port.specs.Trace.{TracesAnswer, Reports}
 
 -- a command that is ended at once was fetched
 pub traces_answer : (old new : PortState) (trace : Trace) → TracesAnswer trace old.waiting new.waiting

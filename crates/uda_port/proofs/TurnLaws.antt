@@ -2,9 +2,7 @@
 use Rattle.std.proofs.lemmas.Bool.Decides.{nat_tests}
 use Rattle.std.proofs.Common.{arith}
 use Rattle.std.proofs.Common.{◌≡◌, ℕ, Bool, true, List, [], ◌∷◌, Some, None, refl}
-use Rattle.std.specs.Prelude.{slice_get, remove, Result, Ok, Err, ◌&&◌, not, if◌then◌else◌}
-use Rattle.uda_packet.specs.Guest.{asked_as}
-use Rattle.uda_packet.specs.declared.command.Command.{Command}
+use Rattle.std.specs.Prelude.{slice_get, remove, Result, Ok, ◌&&◌, not}
 use Rattle.uda_packet.specs.declared.guest_command.GuestCommand.{GuestCommand}
 use Rattle.uda_packet.specs.declared.guest_command.GuestOp.{GuestOp}
 use Rattle.uda_packet.specs.declared.guest_command.GuestOp.TheVariants.{Basic}
@@ -20,7 +18,7 @@ use Rattle.uda_port.specs.declared.phase.Fatal.{Fatal}
 use Rattle.uda_port.specs.declared.turn.Turn.{Turn}
 use Rattle.uda_port.specs.Port.{PortState, lacks_credit}
 use Rattle.uda_port.specs.Report.{attention_text, end_text, next_text}
-use Rattle.uda_port.specs.Turn.{port_turn_on, GoesOn, FirstRuleEffect, RunningTurn, ExecutesFor, ExecutesStrictly}
+use Rattle.uda_port.specs.Turn.{port_turn_on, GoesOn, FirstRuleEffect, RunningTurn, ExecutesFor}
 
 pub running_turn : (old : PortState) (memory : List ℕ) (turn : Turn) (new : PortState) (memory_after : List ℕ)
     → FirstRuleEffect (port_turn_on old) memory (Ok turn) new memory_after
@@ -41,10 +39,6 @@ pub first_text : (port : PortState) (e : Reply) → attention_text port ≡ None
     → next_text port ≡ Some (end_text port e)
 first_text port e none is = grind (arith, nat_tests)
 
-pub no_text : (port : PortState) → attention_text port ≡ None → slice_get port.waiting 0 ≡ None
-    → next_text port ≡ None
-no_text port none is = grind (arith, nat_tests)
-
 -- a list without a first member is empty
 pub none_first : {A : Type 0} (xs : List A) → slice_get xs 0 ≡ None → xs ≡ []
 none_first [] none = refl
@@ -57,25 +51,11 @@ only_strict polling profile credits may none = grind (arith, nat_tests)
 
 -- ---- the strict profile has no additional operations
 
--- no pending command of it has an additional operation
-pub strict_executes : (j : ℕ) (old : ExecState) (memory : List ℕ) (r : Reply) (new : ExecState)
-    (memory_after : List ℕ) → old.guest_ops ≡ [] → ExecutesGuestAt j old memory r new memory_after
-    → ExecutesStrictly j old memory r new memory_after
-strict_executes j old memory r new memory_after none it = grind (arith, nat_tests)
-
 pub executes_for : (profile : Profile) (j : ℕ) (old : ExecState) (memory : List ℕ) (r : Reply)
     (new : ExecState) (memory_after : List ℕ) → (profile ≡ Strict → old.guest_ops ≡ [])
     → ExecutesGuestAt j old memory r new memory_after
     → ExecutesFor profile j old memory r new memory_after
 executes_for profile j old memory r new memory_after none it = grind (arith, nat_tests)
-
--- a command that it fetches has none either
-abbrev as_it_is : Command → GuestCommand
-as_it_is c = record { command = c; op = Basic }
-
-basic_by : (fits : Bool) (read : Result Command Reply) (e : Reply) (g : GuestCommand)
-    → (if fits then asked_as Basic read else Err e) ≡ Ok g → g.op ≡ Basic
-basic_by fits read e g is = grind (arith, nat_tests)
 
 pub strict_basic : (profile : Profile) (p : Packet) (g : GuestCommand) → profile ≡ Strict
     → message_in profile p ≡ Ok g → g.op ≡ Basic

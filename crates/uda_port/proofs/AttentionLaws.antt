@@ -18,10 +18,10 @@ use Rattle.uda_port.specs.declared.turn.Turn.{Turn}
 use Rattle.uda_port.specs.declared.turn.Turn.TheVariants.{Fetched, Executed, Delivered, Notified, Idle, Dead}
 use Rattle.uda_port.specs.AtOnce.{exec_for, exec_at_once}
 use Rattle.uda_port.specs.Attention.{MayNotify, goes_before_ends, one_if, due_count, turns_to_notify, ComesNearer}
-use Rattle.uda_port.specs.Attention.{MOST_TURNS_TO_NOTIFY, UndeliveredTurn, AttentionArrives}
+use Rattle.uda_port.specs.Attention.{UndeliveredTurn, AttentionArrives}
 use Rattle.uda_port.specs.Guest.{is_due, first_due, guest_after}
 use Rattle.uda_port.specs.Message.{message_in, flags_kept}
-use Rattle.uda_port.specs.Port.{PortState, CreditsAgree}
+use Rattle.uda_port.specs.Port.{PortState}
 use Rattle.uda_port.specs.Turn.{TurnEffect, RunningTurn, ExecutesFor, port_with_message, port_turn_on}
 
 -- ---- due attention messages
@@ -137,9 +137,6 @@ module _ (old : PortState) (memory : List ℕ) (new : PortState) (memory_after :
   nearer turn goes = running_nearer turn (runs turn goes)
 
 -- ---- the most of any port
-
-pub most_turns : (port : PortState) → CreditsAgree port → turns_to_notify port ≤ MOST_TURNS_TO_NOTIFY
-most_turns port agree = grind (arith, nat_tests)
 
 -- ---- turns one after another
 

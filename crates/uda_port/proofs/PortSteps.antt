@@ -4,7 +4,7 @@ use Rattle.std.proofs.Common.{◌≡◌, ◌≢◌, ℕ, ◌+◌, ◌*◌, ◌�
 use Rattle.uda_packet.specs.declared.guest_end.Identity.{Identity}
 use Rattle.uda_port.specs.declared.interrupt.Interrupts.{Interrupts}
 use Rattle.uda_port.specs.declared.phase.Fatal.{Fatal}
-use Rattle.uda_port.specs.declared.phase.Fatal.TheVariants.{RingWrite, InitializationError, RingRead, PacketWrite, CreditsExceeded}
+use Rattle.uda_port.specs.declared.phase.Fatal.TheVariants.{RingWrite, InitializationError, RingRead, CreditsExceeded}
 use Rattle.uda_port.specs.declared.phase.Phase.{Phase}
 use Rattle.uda_port.specs.declared.phase.Phase.TheVariants.{Step1, Step2, Step3, Wrap, PurgeTest, PollTest, Step4, Running, Dead}
 use Rattle.uda_port.specs.declared.port.Port.TheInside.{Inside}
@@ -210,9 +210,6 @@ ignores_word phase old memory word is = grind (arith, nat_tests)
 
 pub reads_no_ring : (profile : Profile) (phase : Phase) → phase ≡ Running → CanDie profile phase RingRead
 reads_no_ring profile phase runs = grind (arith, nat_tests)
-
-pub writes_no_packet : (profile : Profile) (phase : Phase) → phase ≡ Running → CanDie profile phase PacketWrite
-writes_no_packet profile phase runs = grind (arith, nat_tests)
 
 pub exceeds_credits : (profile : Profile) (phase : Phase) → phase ≡ Running → profile ≡ Strict
     → CanDie profile phase CreditsExceeded

@@ -1,6 +1,6 @@
 -- What keeps a port's state possible.
 use Rattle.std.proofs.lemmas.Bool.Decides.{nat_tests}
-use Rattle.std.proofs.Common.{◌≡◌, ℕ, ◌+◌, ◌<◌, ◌==◌, zero, suc, Bool, true, false, ◌&&◌, ◌||◌, List, [], ◌∷◌, ◌++◌, refl, sym, ◌∙◌, add-one, arith}
+use Rattle.std.proofs.Common.{◌≡◌, ℕ, ◌<◌, ◌==◌, zero, suc, Bool, true, false, ◌&&◌, ◌||◌, List, [], ◌∷◌, ◌++◌, refl, arith}
 use Rattle.std.specs.Prelude.{if◌then◌else◌, not, set, drop, get_or, length, Option, Some, None, IfSome, is_some, Result, Err}
 use Rattle.std.proofs.lemmas.Bool.{and_parts, and_from}
 use Rattle.uda_exec.specs.declared.scheduler.Position.{Position}
@@ -99,17 +99,6 @@ basic_from : (xs : List Reply) (i : ℕ) (default : Reply) → i < length xs
 basic_from [] i default less = absurd (omega (arith, less))
 basic_from (x ∷ xs) zero default less = refl
 basic_from (x ∷ xs) (suc i) default less = basic_from xs i default (omega (arith, less))
-
-pub passes_basic : (xs : List Reply) (i : ℕ) (default : Reply) → i < length xs
-    → is_basic_body (get_or xs i default).body ≡ true → are_basic (drop i xs) ≡ are_basic xs
-    → are_basic (drop (i + 1) xs) ≡ are_basic xs
-passes_basic xs i default less basic so_far =
-    sym (basic_from xs i default less ∙ rw (basic, add-one) refl) ∙ so_far
-
-pub fails_basic : (xs : List Reply) (i : ℕ) (default : Reply) → i < length xs
-    → is_basic_body (get_or xs i default).body ≡ false → are_basic (drop i xs) ≡ are_basic xs
-    → false ≡ are_basic xs
-fails_basic xs i default less other so_far = sym (basic_from xs i default less ∙ rw other refl) ∙ so_far
 
 -- ---- the first position
 

@@ -147,13 +147,7 @@ lives_nearer old turn new lives it = grind (arith, nat_tests)
 one_nearer : (old new : PortState) → UndeliveredTurn old new → turns_to_notify new < turns_to_notify old
 one_nearer old new t =
     let on = record old { polling = t.polling; interrupts = t.interrupts } in
-    let may : MayNotify on t.memory = record {
-      runs = t.may.runs;
-      due = t.may.due;
-      descriptor = t.may.descriptor;
-      free = t.may.free;
-    } in
-    lives_nearer on t.turn new t.lives (nearer on t.memory new t.memory_after may t.turn t.goes)
+    lives_nearer on t.turn new t.lives (nearer on t.memory new t.memory_after (search t.may) t.turn t.goes)
 
 pub attention_arrives : AttentionArrives
 attention_arrives zero first last same = omega (arith, ap turns_to_notify same)

@@ -6,7 +6,6 @@ use Rattle.uda_packet.specs.declared.guest_command.GuestCommand.{GuestCommand}
 use Rattle.uda_packet.specs.declared.reply.Reply.{Reply}
 use Rattle.uda_disk.specs.Units.{Units}
 use Rattle.uda_port.specs.MemoryUse.{TurnsAt}
-use Rattle.uda_port.specs.Message.{message_in}
 use Rattle.uda_port.specs.Events.{Delivers}
 use Rattle.uda_port.specs.Port.{PortState}
 use Rattle.uda_port.specs.Report.{next_text}
@@ -187,53 +186,23 @@ pub data Outcome (Is : ℕ → Type 0) (turn : Turn) (s : Step) : Type 0 where
       → Outcome Is turn s
 
 module _ (Is : ℕ → Type 0) (turn : Turn) (s : Step) where
-  -- another plan, and the turn that it leads to
-  other : {p : Plan} {wanted : Turn} → plan_of s.old s.memory ≡ p → turn ≡ wanted → is_execution p ≡ false
-      → is_executed wanted ≡ false → units_of s.new ≡ units_of s.old → Outcome Is turn s
-  other plan answer none never units = grind (arith, nat_tests)
-
-  -- a fetch that was planned
-  taken : {wanted : Turn} {d : Descriptor} → TurnIs wanted turn s.old → may_fetch s.old ≡ true
-      → next_descriptor s.memory s.old.commands ≡ Some d → is_owned d ≡ true → is_executed wanted ≡ false
-      → units_of s.new ≡ units_of s.old → Outcome Is turn s
-  taken did looks next owned never units = grind (arith, nat_tests)
-
   pub outcome : TurnCase Is turn s → Outcome Is turn s
-  outcome (Rests rests answer same) =
-      other (plan_rests s.old s.memory rests) answer refl (grind arith) (rw same.state)
-  outcome (CommandRingLost d line same) =
-      other (plan_outside s.old s.memory d.runs line.looks line.no_descriptor) d.answer refl refl (rw same.state)
-  outcome (Unreadable d line same) =
-      taken d line.looks line.no_packet.is_next line.no_packet.owned refl (rw same.state)
-  outcome (Exceeds d before line is) =
-      let t = line.taken.takes in
-      taken d line.taken.looks t.is_next t.owned refl (rw (is, line.taken.others))
-  outcome (BadConnection d before line is) =
-      let t = line.taken.takes in
-      taken d line.taken.looks t.is_next t.owned refl (rw (is, line.taken.others))
-  outcome (Fetches d line) =
-      let t = line.takes in
-      taken d line.looks t.is_next t.owned refl
-      (rw line.others (units_with (counted s) (message_in s.old.profile line.packet)))
   outcome (Executes d nothing j is line) =
       Executing (plan_executes s.old s.memory d.runs nothing (some_executed _ _ _ _ _ line)) d.answer j is line
-  outcome (DeliversEnd d reaches line) =
-      let t = line.puts in
-      other (plan_delivers _ _ d.runs reaches _ _ (first_text s.old line.end line.none_due (rw line.first)) t.is_next
-      t.owned) d.answer refl refl (rw line.others)
-  outcome (Notifies d reaches line) =
-      let t = line.puts in
-      other (plan_delivers _ _ d.runs reaches _ _ (attention_first s.old line.text line.message) t.is_next t.owned)
-      d.answer refl refl (rw line.others)
+  outcome (Rests rests answer same) = Other (grind arith) (grind arith) (rw same.state)
+  outcome (CommandRingLost d line same) = Other (grind arith) (rw d.answer) (rw same.state)
+  outcome (Unreadable d line same) = Other (grind arith) (rw d.answer) (rw same.state)
+  outcome (Exceeds d before line is) = Other (grind arith) (rw d.answer) (rw (is, line.taken.others))
+  outcome (BadConnection d before line is) = Other (grind arith) (rw d.answer) (rw (is, line.taken.others))
+  outcome (Fetches d line) = Other (grind arith) (rw d.answer) (rw line.others (units_with (counted s) _))
+  outcome (DeliversEnd d reaches line) = Other (grind (arith, first_text)) (rw d.answer) (rw line.others)
+  outcome (Notifies d reaches line) = Other (grind (arith, attention_first)) (rw d.answer) (rw line.others)
   outcome (Waits d reaches none same) = elim (plan_quiet _ _ d.runs reaches none) [
-    | NoneWaits plan ↦ other plan d.answer refl refl (rw same.state)
-    | Waiting plan ↦ other plan d.answer refl refl (rw same.state)
+    | NoneWaits plan ↦ Other (rw plan) (rw d.answer) (rw same.state)
+    | Waiting plan ↦ Other (rw plan) (rw d.answer) (rw same.state)
   ]
-  outcome (ResponseRingLost d reaches line same) =
-      other (plan_lost _ _ d.runs reaches _ line.is_next line.no_descriptor) d.answer refl refl (rw same.state)
-  outcome (NoRoom d reaches line same) =
-      let l = line.no_room in
-      other (plan_delivers _ _ d.runs reaches _ _ line.is_next l.is_next l.owned) d.answer refl refl (rw same.state)
+  outcome (ResponseRingLost d reaches line same) = Other (grind arith) (rw d.answer) (rw same.state)
+  outcome (NoRoom d reaches line same) = Other (grind arith) (rw d.answer) (rw same.state)
 
 -- ---- a turn that executes the command at an index, if it executes one
 

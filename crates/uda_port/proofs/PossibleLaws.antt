@@ -1,7 +1,7 @@
 -- What keeps a port's state possible.
 use Rattle.std.proofs.lemmas.Bool.Decides.{nat_tests}
-use Rattle.std.proofs.Common.{◌≡◌, ℕ, ◌<◌, ◌==◌, zero, suc, Bool, true, false, ◌&&◌, ◌||◌, List, [], ◌∷◌, ◌++◌, refl, arith}
-use Rattle.std.specs.Prelude.{if◌then◌else◌, not, set, drop, get_or, length, Option, Some, None, IfSome, is_some, Result, Err}
+use Rattle.std.proofs.Common.{◌≡◌, ℕ, ◌==◌, zero, suc, Bool, true, false, ◌&&◌, ◌||◌, List, [], ◌∷◌, ◌++◌, refl, arith}
+use Rattle.std.specs.Prelude.{if◌then◌else◌, not, set, Option, Some, None, IfSome, is_some, Result, Err}
 use Rattle.std.proofs.lemmas.Bool.{and_parts, and_from}
 use Rattle.uda_exec.specs.declared.scheduler.Position.{Position}
 use Rattle.uda_exec.specs.Disks.{FIRST_POSITION, ExecState}
@@ -92,13 +92,6 @@ are_basic_more [] r old-are is = and_from _ _ is refl
 are_basic_more (first ∷ rest) r old-are is =
     let parts = and_parts (is_basic_body first.body) _ old-are in
     and_from _ _ parts.0 (are_basic_more rest r parts.1 is)
-
--- the queue from an index on
-basic_from : (xs : List Reply) (i : ℕ) (default : Reply) → i < length xs
-    → are_basic (drop i xs) ≡ (is_basic_body (get_or xs i default).body && are_basic (drop (suc i) xs))
-basic_from [] i default less = absurd (omega (arith, less))
-basic_from (x ∷ xs) zero default less = refl
-basic_from (x ∷ xs) (suc i) default less = basic_from xs i default (omega (arith, less))
 
 -- ---- the first position
 

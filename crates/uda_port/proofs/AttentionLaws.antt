@@ -1,22 +1,17 @@
 -- How soon an attention message that is due is delivered: what the effect of a turn says of it.
 use Rattle.std.proofs.lemmas.Bool.Decides.{nat_tests}
-use Rattle.std.proofs.Common.{◌≡◌, ◌≤◌, ◌<◌, ℕ, zero, suc, ◌+◌, Bool, true, false, List, [], ◌∷◌, ◌++◌, length, Some, None, arith, refl, ap}
+use Rattle.std.proofs.Common.{◌≡◌, ◌≤◌, ◌<◌, ℕ, zero, suc, ◌+◌, Bool, true, false, List, [], ◌∷◌, ◌++◌, length, Some, arith, ap}
 use Rattle.std.proofs.lemmas.List.{length-append, length-take, length-drop}
-use Rattle.std.specs.Prelude.{set, take, drop, remove, slice_get, Result, Ok, Err, if◌then◌else◌}
+use Rattle.std.specs.Prelude.{set, take, drop, remove, slice_get, Result}
 use Rattle.std.specs.List.{position_or_len, before_first, after_first}
 use Rattle.uda_packet.specs.declared.guest_command.GuestCommand.{GuestCommand}
 use Rattle.uda_packet.specs.declared.reply.Reply.{Reply}
-use Rattle.uda_packet.specs.declared.reply.ReplyBody.{ReplyBody}
-use Rattle.uda_packet.specs.declared.reply.ReplyBody.TheVariants as body
 use Rattle.uda_exec.specs.Disks.{ExecState}
-use Rattle.uda_exec.specs.Named.{is_named}
 use Rattle.uda_port.specs.declared.guest.Guest.{Guest}
 use Rattle.uda_port.specs.declared.packet.Fetched.{Fetched as Packet}
 use Rattle.uda_port.specs.declared.profile.Profile.{Profile}
-use Rattle.uda_port.specs.declared.profile.Profile.TheVariants.{Strict, Compatible}
 use Rattle.uda_port.specs.declared.turn.Turn.{Turn}
-use Rattle.uda_port.specs.declared.turn.Turn.TheVariants.{Fetched, Executed, Delivered, Notified, Idle, Dead}
-use Rattle.uda_port.specs.AtOnce.{exec_for, exec_at_once}
+use Rattle.uda_port.specs.declared.turn.Turn.TheVariants.{Fetched, Executed, Notified, Dead}
 use Rattle.uda_port.specs.Attention.{MayNotify, goes_before_ends, one_if, due_count, turns_to_notify, ComesNearer}
 use Rattle.uda_port.specs.Attention.{UndeliveredTurn, AttentionArrives}
 use Rattle.uda_port.specs.Guest.{is_due, first_due, guest_after}
@@ -27,35 +22,19 @@ use Rattle.uda_port.specs.Turn.{TurnEffect, RunningTurn, ExecutesFor, port_with_
 -- ---- due attention messages
 
 cleared : (xs : List Bool) (n k : ℕ) → one_if (is_due (set xs n false) k) ≤ one_if (is_due xs k)
-cleared [] n k = omega arith
 cleared (x ∷ xs) zero zero = omega arith
 cleared (x ∷ xs) (suc n) (suc k) = cleared xs n k
-cleared (x ∷ xs) _ _ = omega arith
+cleared _ _ _ = omega arith
 
 no_longer : (xs : List Bool) (k : ℕ) → is_due xs k ≡ true → one_if (is_due (set xs k false) k) < one_if (is_due xs k)
-no_longer [] k is = absurd (cc)
-no_longer (x ∷ xs) zero is = rw is (omega arith)
 no_longer (x ∷ xs) (suc k) is = no_longer xs k is
+no_longer _ _ is = grind arith
 
 fewer_or_same : (xs : List Bool) (n : ℕ) → due_count (set xs n false) ≤ due_count xs
 fewer_or_same xs n = omega (arith, cleared xs n)
 
-module _ (xs : List Bool) where
-  fewer_by : (a b c d : Bool) (drive : ℕ) → is_due xs 0 ≡ a → is_due xs 1 ≡ b → is_due xs 2 ≡ c → is_due xs 3 ≡ d
-      → (if a then Some 0 else if b then Some 1 else if c then Some 2 else if d then Some 3 else None) ≡ Some drive
-      → due_count (set xs drive false) < due_count xs
-  fewer_by true b c d drive is _ _ _ first =
-      let at : drive ≡ 0 = cc in rw at (omega (arith, cleared xs 0, no_longer xs 0 is))
-  fewer_by false true c d drive _ is _ _ first =
-      let at : drive ≡ 1 = cc in rw at (omega (arith, cleared xs 1, no_longer xs 1 is))
-  fewer_by false false true d drive _ _ is _ first =
-      let at : drive ≡ 2 = cc in rw at (omega (arith, cleared xs 2, no_longer xs 2 is))
-  fewer_by false false false true drive _ _ _ is first =
-      let at : drive ≡ 3 = cc in rw at (omega (arith, cleared xs 3, no_longer xs 3 is))
-  fewer_by false false false false drive _ _ _ _ first = absurd (cc)
-
-  fewer : (drive : ℕ) → first_due xs ≡ Some drive → due_count (set xs drive false) < due_count xs
-  fewer drive first = fewer_by _ _ _ _ drive refl refl refl refl first
+fewer : (xs : List Bool) (drive : ℕ) → first_due xs ≡ Some drive → due_count (set xs drive false) < due_count xs
+fewer xs drive first = grind (arith, cleared xs, no_longer xs)
 
 flags_attentions : (profile : Profile) (p : Packet) (message : Result GuestCommand Reply) (g : Guest)
     → (flags_kept profile p message g).attentions ≡ g.attentions
@@ -74,31 +53,16 @@ removed (y ∷ xs) (suc j) x is = omega (arith, removed xs j x is)
 executed : (profile : Profile) (j : ℕ) (old : ExecState) (memory : List ℕ) (r : Reply) (new : ExecState)
     (memory_after : List ℕ) → ExecutesFor profile j old memory r new memory_after
     → length new.pending < length old.pending
-executed Strict j old memory r new memory_after it =
-    let taken = it.executes.taken in
-    omega (arith, ap length taken.taken, removed old.pending j it.executes.command taken.stands)
-executed (Compatible identity) j old memory r new memory_after it =
-    omega (arith, ap length it.taken.taken, removed old.pending j it.command it.taken.stands)
+executed profile j old memory r new memory_after it = grind (arith, removed)
 
 others_left : {A : Type 0} (p : A → Bool) (xs : List A) → length (before_first p xs ++ after_first p xs) ≤ length xs
 others_left p xs =
     let n = position_or_len p xs in
     omega (arith, length-append (take n xs) (drop (n + 1) xs), length-take n xs, length-drop (n + 1) xs)
 
-at_once : (body : ReplyBody) (r : Reply) (exec : ExecState)
-    → length (exec_for body r exec).pending ≤ length exec.pending
-at_once (body.Abort named) r exec = others_left (is_named r.unit named) exec.pending
-at_once _ r exec = omega arith
-
-by_profile : (profile : Profile) (r : Reply) (exec : ExecState)
-    → length (exec_at_once profile r exec).pending ≤ length exec.pending
-by_profile Strict r exec = omega arith
-by_profile (Compatible identity) r exec = at_once r.body r exec
-
 with_message : (old : PortState) (message : Result GuestCommand Reply)
     → length (port_with_message old message).exec.pending ≤ length old.exec.pending + 1
-with_message old (Ok c) = omega (arith, length-append old.exec.pending (c.command ∷ []))
-with_message old (Err r) = omega (arith, by_profile old.profile r old.exec)
+with_message old message = grind (arith, length-append, others_left)
 
 -- ---- a turn
 
@@ -123,8 +87,7 @@ module _ (old : PortState) (memory : List ℕ) (new : PortState) (memory_after :
   running_nearer Notified goes =
       let one = goes.rest.1 in rw one.others (omega (arith, fewer old.guest.attentions one.drive one.due))
   running_nearer Dead goes = tt
-  running_nearer Delivered goes = absurd (cc (running_first Delivered goes))
-  running_nearer Idle goes = absurd (cc (running_first Idle goes))
+  running_nearer turn goes = absurd (cc (running_first turn goes))
 
   runs : (turn : Turn) → TurnEffect old.phase old memory turn new memory_after
       → RunningTurn old memory turn new memory_after

@@ -1,6 +1,6 @@
 -- The invariant of a port after a change of its phase.
 use Rattle.std.proofs.lemmas.Bool.Decides.{nat_tests}
-use Rattle.std.proofs.Common.{◌≡◌, ◌≢◌, ℕ, ◌+◌, ◌*◌, ◌≤◌, ◌<◌, ◌⊎◌, true, false, List, Option, None, refl, sym, ◌∙◌, arith}
+use Rattle.std.proofs.Common.{◌≡◌, ◌≢◌, ℕ, ◌+◌, ◌*◌, ◌≤◌, ◌<◌, ◌⊎◌, true, false, List, Option, None, arith}
 use Rattle.uda_packet.specs.declared.guest_end.Identity.{Identity}
 use Rattle.uda_port.specs.declared.interrupt.Interrupts.{Interrupts}
 use Rattle.uda_port.specs.declared.phase.Fatal.{Fatal}
@@ -13,37 +13,17 @@ use Rattle.uda_port.specs.declared.profile.Profile.TheVariants.{Strict, Compatib
 use Rattle.uda_port.specs.Interrupt.{raised_by_step, raised, interrupts_asked, noted}
 use Rattle.uda_port.specs.PortInvariant.{PortInvariant, IsPossible}
 use Rattle.uda_port.specs.Port.{PortState, port_after_ip_read}
-use Rattle.uda_port.specs.Possible.{has_run, has_rings, has_phase, CanDie, is_step_3, is_past_steps, settings_fit, is_strict_phase, is_guest_phase, can_interrupt, rings_fit, addresses_by, guest_fits, queue_fits, HasNoWork}
+use Rattle.uda_port.specs.Possible.{has_run, has_phase, CanDie, is_step_3, can_interrupt, rings_fit, addresses_by, guest_fits, queue_fits, HasNoWork}
 use Rattle.uda_port.specs.Ring.{RingState}
 use Rattle.uda_port.specs.Startup.{has_bit, refuses_second, refuses_third, asks_test, after_sa_write}
 use Rattle.uda_port.proofs.PossibleLaws.{same_guest, by_death, by_step, by_indicator, rings_move}
-
--- both profiles have the phase
-in_both : (profile : Profile) (phase : Phase) → is_strict_phase phase ≡ true → is_guest_phase phase ≡ true
-    → has_phase profile phase ≡ true
-in_both profile phase strict guest = grind (arith, nat_tests)
-
--- both phases allow the same interrupts
-same_interrupts : (profile : Profile) (phase next : Phase) (i : Interrupts) → settings_fit next i ≡ settings_fit phase i
-    → is_past_steps next ≡ is_past_steps phase → can_interrupt profile phase i ≡ true
-    → can_interrupt profile next i ≡ true
-same_interrupts profile phase next i settings past is = grind (arith, nat_tests)
-
--- the port goes from one phase to another, in which it has the same rings and has run or not as before
-steps : {S : Type 0} (p : Inside S) (phase next : Phase) (i : Interrupts) → p.phase ≡ phase
-    → has_rings next ≡ has_rings phase → has_run next ≡ has_run phase
-    → (has_phase p.profile phase ≡ true → has_phase p.profile next ≡ true)
-    → (can_interrupt p.profile phase p.interrupts ≡ true → can_interrupt p.profile next i ≡ true)
-    → PortInvariant p → PortInvariant (record p { phase = next; interrupts = i })
-steps p phase next i step rings run has can is = grind (arith, nat_tests)
 
 -- ---- death
 
 pub dies : {S : Type 0} (p : Inside S) (cause : Fatal) → CanDie p.profile p.phase cause → PortInvariant p
     → PortInvariant (record p { phase = Dead cause; interrupts = raised p.profile p.interrupts })
 dies p cause can is =
-    steps p p.phase (Dead cause) _ refl (sym can.rings) (sym can.ran) (λ _. can.fatal)
-    (by_death p.profile p.phase cause p.interrupts) is
+    grind (arith, by_death)
 
 -- ---- the first word
 
@@ -112,20 +92,6 @@ pub record AreSet (profile : Profile) (responses commands : RingState) : Type 0 
   pub first : responses.place ≡ 0
   pub second : commands.place ≡ 0
 
-pub sets_rings : {S : Type 0} (p : Inside S) (next : Phase) (i : Interrupts) (responses commands : RingState)
-    → is_step_3 p.phase ≡ true → AreSet p.profile responses commands
-    → has_phase p.profile next ≡ true → has_run next ≡ false → can_interrupt p.profile next i ≡ true
-    → rings_fit p.profile next responses commands ≡ true → PortInvariant p
-    → PortInvariant (record p { phase = next; interrupts = i; responses = responses; commands = commands })
-sets_rings p next i responses commands step set has rests can fit is =
-    let ordered : responses.base ≤ commands.base = omega arith in
-    let rested = not_run_in_3 p.phase step in
-    assumption (
-      ordered,
-      same_guest p.profile p.phase next p.guest (rests ∙ sym rested) is.possible.guest,
-      λ (_ : has_run next ≡ false). is.possible.no_work rested,
-    )
-
 set_fit : (profile : Profile) (responses commands : RingState) → AreSet profile responses commands
     → rings_fit profile Step4 responses commands ≡ true
 set_fit profile responses commands set = grind (arith, nat_tests)
@@ -139,10 +105,7 @@ pub enters_step_4 : {S : Type 0} (p : Inside S) (responses commands : RingState)
       commands = commands;
     })
 enters_step_4 p responses commands step set is =
-    sets_rings p Step4 _ responses commands step set (in_both p.profile Step4 refl refl) refl
-    (by_step p.profile Step4 p.interrupts
-    (third_interrupts p.profile p.phase p.interrupts step is.possible.interrupts))
-    (set_fit p.profile responses commands set) is
+    grind (arith, not_run_in_3, same_guest, by_step, third_interrupts, set_fit)
 
 -- a port that tests is compatible
 tests : (profile : Profile) (word : ℕ) → asks_test profile word ≡ true → has_phase profile PurgeTest ≡ true
@@ -153,10 +116,7 @@ pub enters_test : {S : Type 0} (p : Inside S) (responses commands : RingState) (
     → PortInvariant p
     → PortInvariant (record p { phase = PurgeTest; responses = responses; commands = commands })
 enters_test p responses commands word step set asks is =
-    sets_rings p PurgeTest p.interrupts responses commands step set (tests p.profile word asks) refl
-    (same_interrupts p.profile Step4 PurgeTest p.interrupts refl refl
-    (third_interrupts p.profile p.phase p.interrupts step is.possible.interrupts))
-    (set_fit p.profile responses commands set) is
+    grind (arith, not_run_in_3, same_guest, third_interrupts, set_fit)
 
 -- ---- a running port
 
@@ -166,15 +126,8 @@ pub runs_on : {S : Type 0} {p : Inside S} (indicator : Option ℕ) → PortInvar
     → q.responses.base ≡ p.responses.base → q.responses.count ≡ p.responses.count
     → q.commands.base ≡ p.commands.base → guest_fits p.profile p.phase q.guest ≡ true
     → queue_fits p.profile q.waiting.items ≡ true → IsPossible q
-runs_on {p = p} indicator is runs q profile phase notes base count other guest queue = record {
-  phase = rw (profile, phase) is.possible.phase;
-  interrupts = rw (profile, phase, notes) (by_indicator _ _ indicator _ runs is.possible.interrupts);
-  rings = rw (profile, phase) (rings_move p.profile _ p.responses p.commands q.responses q.commands runs base count
-      other is.possible.rings);
-  guest = rw (profile, phase) guest;
-  queue = rw profile queue;
-  no_work = λ rests. absurd (cc);
-}
+runs_on {p = p} indicator is runs q profile phase notes base count other guest queue =
+    grind (arith, by_indicator, rings_move)
 
 pub polls : {S : Type 0} (p : Inside S) → p.phase ≡ Running → PortInvariant p
     → PortInvariant (record p { polling = true })

@@ -1,8 +1,7 @@
 -- What keeps a port's state possible.
 use Rattle.std.proofs.lemmas.Bool.Decides.{nat_tests}
-use Rattle.std.proofs.Common.{◌≡◌, ℕ, ◌==◌, zero, suc, Bool, true, false, ◌&&◌, ◌||◌, List, [], ◌∷◌, ◌++◌, refl, arith}
-use Rattle.std.specs.Prelude.{if◌then◌else◌, not, set, Option, Some, None, IfSome, is_some, Result, Err}
-use Rattle.std.proofs.lemmas.Bool.{and_parts, and_from}
+use Rattle.std.proofs.Common.{◌≡◌, ℕ, zero, suc, Bool, true, false, ◌&&◌, List, [], ◌∷◌, ◌++◌, refl, arith}
+use Rattle.std.specs.Prelude.{set, Option, Some, None, IfSome, is_some, Result, Err}
 use Rattle.uda_exec.specs.declared.scheduler.Position.{Position}
 use Rattle.uda_exec.specs.Disks.{FIRST_POSITION, ExecState}
 use Rattle.uda_packet.specs.declared.reply.Reply.{Reply}
@@ -23,9 +22,9 @@ use Rattle.uda_port.specs.declared.phase.Phase.{Phase}
 use Rattle.uda_port.specs.declared.phase.Phase.TheVariants.{Step1, Running, Dead}
 use Rattle.uda_port.specs.declared.profile.Profile.{Profile}
 use Rattle.uda_port.specs.declared.profile.Profile.TheVariants.{Strict, Compatible}
-use Rattle.uda_port.specs.Guest.{guest_restarted, attention_set, guest_after, is_online_now, first_due}
+use Rattle.uda_port.specs.Guest.{guest_restarted, attention_set, guest_after, first_due}
 use Rattle.uda_port.specs.Interrupt.{NO_INTERRUPTS, raised, raised_by_step, noted, served, vector_of, IsVectorAddress}
-use Rattle.uda_port.specs.Possible.{has_run, can_interrupt, rings_fit, none_due, is_guest_running, guest_fits, is_basic_body, are_basic, queue_fits, HasNoWork, is_first_position}
+use Rattle.uda_port.specs.Possible.{has_run, can_interrupt, rings_fit, none_due, guest_fits, is_basic_body, are_basic, queue_fits, HasNoWork, is_first_position}
 use Rattle.uda_port.specs.PortInvariant.{IsPossible}
 use Rattle.uda_port.specs.declared.port.Port.TheInside.{Inside}
 use Rattle.uda_port.specs.Ring.{RingState}
@@ -79,19 +78,15 @@ rings_move profile phase a b c d runs base count other is = grind (arith, nat_te
 none_due_without : (attentions : List Bool) (drive : ℕ) → none_due attentions ≡ true
     → none_due (set attentions drive false) ≡ true
 none_due_without [] drive is = refl
-none_due_without (due ∷ more) zero is = (and_parts (not due) _ is).1
-none_due_without (due ∷ more) (suc drive) is =
-    let parts = and_parts (not due) _ is in
-    and_from _ _ parts.0 (none_due_without more drive parts.1)
+none_due_without (due ∷ more) zero is = grind arith
+none_due_without (due ∷ more) (suc drive) is = grind (arith, none_due_without more drive)
 
 -- ---- end messages
 
 are_basic_more : (old : List Reply) (r : Reply) → are_basic old ≡ true → is_basic_body r.body ≡ true
     → are_basic (old ++ r ∷ []) ≡ true
-are_basic_more [] r old-are is = and_from _ _ is refl
-are_basic_more (first ∷ rest) r old-are is =
-    let parts = and_parts (is_basic_body first.body) _ old-are in
-    and_from _ _ parts.0 (are_basic_more rest r parts.1 is)
+are_basic_more [] r old-are is = grind arith
+are_basic_more (first ∷ rest) r old-are is = grind (arith, are_basic_more rest r)
 
 -- ---- the first position
 
@@ -105,51 +100,30 @@ pub flags_fit : (profile : Profile) (phase : Phase) (p : Fetched) (m : Result Gu
     → guest_fits profile phase (flags_kept profile p m guest) ≡ true
 flags_fit profile phase p m guest runs is = grind (arith, nat_tests)
 
-unset_by : (runs : Bool) (guest : Guest) (drive : ℕ)
-    → (runs || ((guest.flags == 0) && none_due guest.attentions)) ≡ true
-    → (runs || ((guest.flags == 0) && none_due (set guest.attentions drive false))) ≡ true
-unset_by true guest drive is = refl
-unset_by _ guest drive is =
-    let parts = and_parts (guest.flags == 0) _ is in
-    and_from _ _ parts.0 (none_due_without guest.attentions drive parts.1)
-
-unset_fits : (profile : Profile) (phase : Phase) (guest : Guest) (drive : ℕ) → guest_fits profile phase guest ≡ true
-    → guest_fits profile phase (attention_set guest drive false) ≡ true
-unset_fits profile phase guest drive is = unset_by (is_guest_running profile phase) guest drive is
-
 pub after_fits : (profile : Profile) (phase : Phase) (e : Reply) (guest : Guest) → guest_fits profile phase guest ≡ true
     → guest_fits profile phase (guest_after e guest) ≡ true
-after_fits profile phase e guest is =
-    elim (is_online_now e) as (λ online.
-    guest_fits profile phase (if online then attention_set guest e.unit false else guest) ≡ true) [
-      | true ↦ unset_fits profile phase guest e.unit is
-      | false ↦ is
-    ]
+after_fits profile phase e guest is = grind (arith, none_due_without)
 
 -- an attached drive
 pub drive_fits : (profile : Profile) (phase : Phase) (guest : Guest) (drive : ℕ) (there : Bool)
     → guest_fits profile phase guest ≡ true
     → guest_fits profile phase (attention_set guest drive (there && expects_attention profile phase guest.flags)) ≡ true
-drive_fits profile phase guest drive false is = unset_fits profile phase guest drive is
-drive_fits (Compatible identity) Running guest drive true is = refl
-drive_fits profile phase guest drive true is = unset_fits profile phase guest drive is
+drive_fits profile phase guest drive there is = grind (arith, none_due_without)
 
 pub unset_by_set : (profile : Profile) (phase : Phase) (old new : Guest) (drive : ℕ)
     → new ≡ attention_set old drive false → guest_fits profile phase old ≡ true → guest_fits profile phase new ≡ true
-unset_by_set profile phase old new drive set is = rw set (unset_fits profile phase old drive is)
+unset_by_set profile phase old new drive set is = grind (arith, none_due_without)
 
 -- ---- the queue of end messages
 
 pub queue_more : (profile : Profile) (old : List Reply) (r : Reply) → (profile ≡ Strict → is_basic_body r.body ≡ true)
     → queue_fits profile old ≡ true → queue_fits profile (old ++ r ∷ []) ≡ true
-queue_more Strict old r basic is = are_basic_more old r is (basic refl)
-queue_more _ old r basic is = refl
+queue_more profile old r basic is = grind (arith, are_basic_more)
 
 pub queue_answered : (profile : Profile) (old : List Reply) (r : Reply) (exec : ExecState)
     → (profile ≡ Strict → is_basic_body r.body ≡ true) → queue_fits profile old ≡ true
     → queue_fits profile (old ++ replies_at_once profile r exec) ≡ true
-queue_answered Strict old r exec basic is = are_basic_more old r is (basic refl)
-queue_answered _ old r exec basic is = refl
+queue_answered profile old r exec basic is = grind (arith, are_basic_more)
 
 pub queue_less : (profile : Profile) (old : List Reply) (first : Reply) (rest : List Reply) → old ≡ first ∷ rest
     → queue_fits profile old ≡ true → queue_fits profile rest ≡ true

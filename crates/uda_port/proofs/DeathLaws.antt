@@ -7,7 +7,7 @@ use Rattle.uda_port.specs.declared.phase.Fatal.{Fatal}
 use Rattle.uda_port.specs.declared.turn.Turn.{Turn}
 use Rattle.uda_port.specs.declared.play.HostEvent.{HostEvent}
 use Rattle.uda_port.specs.declared.phase.Phase.TheVariants.{Running, Dead}
-use Rattle.uda_port.specs.declared.play.HostEvent.TheVariants.{WriteIp, ReadIp, WriteSa, Word, Turn as TurnEvent}
+use Rattle.uda_port.specs.declared.play.HostEvent.TheVariants.{WriteIp, WriteSa, Turn as TurnEvent}
 use Rattle.uda_port.specs.Port.{PortState}
 use Rattle.uda_port.specs.Startup.{after_sa_write, failed_port}
 use Rattle.uda_port.specs.Plan.{Step, counted}
@@ -52,16 +52,14 @@ module _ (cause : Fatal) (old new : PortState) (memory memory_after : List ℕ) 
   -- A port that is dead after an event met a cause in it, or was dead before and the event isn't a write to IP.
   fatal_event : (event : HostEvent) → EventEffect event old memory new memory_after → new.phase ≡ Dead cause
       → ((event ≢ WriteIp) × (old.phase ≡ Dead cause)) ⊎ MeetsCause cause event old memory
-  fatal_event WriteIp goes dead = absurd (cc (phases goes.0))
-  fatal_event ReadIp goes dead = inl ((λ is. cc), grind arith)
   fatal_event (WriteSa word) goes dead =
       elim (fatal_word cause word old new memory dead old.phase refl goes)
       [ inl was ↦ inl ((λ is. cc), was) | inr met ↦ inr met ]
-  fatal_event (Word address word) goes dead = inl ((λ is. cc), rw goes.0 at dead)
   fatal_event TurnEvent goes dead =
       let s = step_of (old, memory) (new, memory_after) in
       elim (fatal_turn cause goes.0 s dead (case_of goes.0 s goes.1))
       [ inl was ↦ inl ((λ is. cc), was) | inr met ↦ inr met ]
+  fatal_event _ goes dead = grind arith
 
   -- a dead port remains dead until IP is written
   dead_event : (event : HostEvent) → EventEffect event old memory new memory_after → event ≢ WriteIp

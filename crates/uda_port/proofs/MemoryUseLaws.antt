@@ -25,7 +25,6 @@ use Rattle.uda_exec.specs.GuestOps.{op_at}
 use Rattle.uda_exec.proofs.Changes.{length-changes}
 use Rattle.uda_exec.proofs.Elsewhere.{changes_as, reads_none, executes_as_elsewhere}
 use Rattle.uda_port.specs.declared.packet.Delivery.{Delivery}
-use Rattle.uda_port.specs.declared.packet.Fetching.{Fetching}
 use Rattle.uda_port.specs.declared.descriptor.Descriptor.{Descriptor}
 use Rattle.uda_port.specs.declared.packet.Fetched.{Fetched}
 use Rattle.uda_port.specs.declared.phase.Phase.{Phase}
@@ -51,7 +50,7 @@ use Rattle.uda_port.specs.Plan.{plan_of, looks_at_commands, looks_at_responses, 
 use Rattle.uda_port.specs.Plan.{Step, TurnIs, TurnCase, Rests, CommandRingLost, Unreadable, Exceeds, BadConnection, Fetches, Executes, DeliversEnd, Notifies, Waits, ResponseRingLost, NoRoom}
 use Rattle.uda_port.specs.Turn.{Unchanged, ExecutesFor, TurnEffect, TakesPacket, NothingToFetch, NothingToDeliver, ExecutesOne, may_fetch, fetching_of, port_turn_on, port_not_polling}
 use Rattle.uda_port.specs.MemoryUse.{looked_at, descriptor_ranges, first_of, written_after, newest_count, packet_range, indicator_range, returned_range, NONE_WRITTEN, has_text, has_room, written_by_fetch, fetch_use, looked_up, written_by_delivery, delivery_use, use_by, use_of, fate_in, fate_of, CanFail, EffectBy, EffectWithout, written_by_fate, written_of, Agrees, AgreesInDescriptors, IsLocal, HasValidRings}
-use Rattle.uda_port.proofs.PlanLaws.{plan_rests, plan_outside, plan_fetches, plan_executes, plan_lost, plan_delivers, IsQuiet, NoneWaits, Waiting, plan_quiet, some_executed, case_at, turns_at}
+use Rattle.uda_port.proofs.PlanLaws.{plan_executes, IsQuiet, NoneWaits, Waiting, plan_quiet, some_executed, case_at, turns_at}
 use Rattle.uda_port.proofs.RingLaws.{takes_first}
 use Rattle.uda_port.proofs.TurnLaws.{executes_for, attention_first, first_text}
 
@@ -349,9 +348,6 @@ module _ (old : PortState) (memory : List ℕ) (j : ℕ) (new : PortState) (memo
   -- a packet that was taken, and what follows from that
   module _ (packet : Fetched) (ring_after : RingState) (runs : old.phase ≡ Running) (may : may_fetch old ≡ true)
       (t : Takes (fetching_of old memory) old.commands memory packet ring_after memory_after) where
-    looks_here : looks_at_commands old ≡ true
-    looks_here = grind arith
-
     abbrev taken_writes : List Write
     taken_writes = fetch_writes (command_indicator old memory) old.commands t.first
 
@@ -360,24 +356,20 @@ module _ (old : PortState) (memory : List ℕ) (j : ℕ) (new : PortState) (memo
         → Takes (fetching_of old other) old.commands other packet ring_after (puts taken_writes other)
     takes_there other s body =
         let at = text_address old.profile t.first in
-        let fetching : Option ℕ → Fetching = λ i. record { profile = old.profile; indicator = i } in
-        subst
-        (λ (i : Option ℕ). Takes (fetching i) old.commands other packet ring_after (puts taken_writes other))
-        (sym (s.told looks_here)) (record {
-          first = t.first;
-          is_next = s.command looks_here ∙ t.is_next;
-          owned = t.owned;
-          readable = text_there memory other s.same at 48 t.readable;
-          is_packet = packet_there memory other s.same at packet t.readable body t.is_packet;
-          written = puts_fetch (command_indicator old memory) old.commands t.first other;
-          advanced = t.advanced;
-        })
+        let looks : looks_at_commands old ≡ true = grind arith in
+        rw (s.told looks) (search (
+          t,
+          s.command looks ∙ t.is_next,
+          text_there memory other s.same at 48 t.readable,
+          packet_there memory other s.same at packet t.readable body t.is_packet,
+          puts_fetch (command_indicator old memory) old.commands t.first other,
+        ))
 
     taken : (turn : Turn) → ((other : List ℕ) → SameDescriptors old memory other
         → Takes (fetching_of old other) old.commands other packet ring_after (puts taken_writes other)
         → CaseIn turn other (puts taken_writes other)) → Local (plan_of old memory) turn
     taken turn goes =
-        by_writes (ToFetch t.first) turn taken_writes (plan_fetches old memory t.first runs may t.is_next t.owned) refl
+        by_writes (ToFetch t.first) turn taken_writes (grind arith) refl
         (t.written ∙ sym (puts_fetch (command_indicator old memory) old.commands t.first memory))
         (fetch_ranges (command_indicator old memory) old.commands t.first
         ∙ sym (ap (written_by_fetch old memory) (text_true memory (text_address old.profile t.first) 48 t.readable)))
@@ -408,9 +400,6 @@ module _ (old : PortState) (memory : List ℕ) (j : ℕ) (new : PortState) (memo
     abbrev put_here : List Write
     put_here = put_writes delivery old.responses t.first text
 
-    looks_there : looks_at_responses old ≡ true
-    looks_there = grind arith
-
     above : 4 ≤ place
     above = grind (arith, nat_tests)
 
@@ -419,24 +408,21 @@ module _ (old : PortState) (memory : List ℕ) (j : ℕ) (new : PortState) (memo
         → Puts (delivery_with old credits (response_indicator old other)) old.responses other text ring_after
         (puts put_here other)
     puts_there other s body =
-        subst
-        (λ (i : Option ℕ). Puts (delivery_with old credits i) old.responses other text ring_after
-        (puts put_here other)) (sym (s.answered looks_there)) (record {
-          first = t.first;
-          is_next = s.response looks_there ∙ t.is_next;
-          owned = t.owned;
-          room = room_from old.profile other place (length text)
-              (room_there memory other s.same old.profile place (length text) body ∙ room_true _ _ _ _ t.room);
-          written = puts_put delivery old.responses t.first text other above;
-          advanced = t.advanced;
-        })
+        let looks : looks_at_responses old ≡ true = grind arith in
+        rw (s.answered looks) (search (
+          t,
+          s.response looks ∙ t.is_next,
+          room_from old.profile other place (length text)
+              (room_there memory other s.same old.profile place (length text) body ∙ room_true _ _ _ _ t.room),
+          puts_put delivery old.responses t.first text other above,
+        ))
 
     put_message : (turn : Turn) → ((other : List ℕ) → SameDescriptors old memory other
         → Puts (delivery_with old credits (response_indicator old other)) old.responses other text ring_after
         (puts put_here other) → CaseIn turn other (puts put_here other)) → Local (plan_of old memory) turn
     put_message turn goes =
         by_writes (ToDeliver t.first (length text)) turn put_here
-        (plan_delivers old memory runs reaches text t.first next t.is_next t.owned) refl
+        (grind arith) refl
         (t.written ∙ sym (puts_put delivery old.responses t.first text memory above))
         (put_ranges delivery old.responses t.first text
         ∙ sym (ap (written_by_delivery old memory (range_at place (length text)))
@@ -476,16 +462,16 @@ module _ (old : PortState) (memory : List ℕ) (j : ℕ) (new : PortState) (memo
 
   case_local : (turn : Turn) → CaseIn turn memory memory_after → Local (plan_of old memory) turn
   case_local turn (Rests rests answer same) =
-      unwritten AtRest turn (plan_rests old memory rests) refl refl same.memory_stays
+      unwritten AtRest turn (grind arith) refl refl same.memory_stays
       (λ other s body. Rests rests answer (still memory other old same))
   case_local turn (CommandRingLost d line same) =
-      unwritten NoCommandRing turn (plan_outside old memory d.runs line.looks line.no_descriptor) refl refl
+      unwritten NoCommandRing turn (grind arith) refl refl
       same.memory_stays
       (λ other s body. CommandRingLost d (search (line, s.command (grind arith) ∙ line.no_descriptor)) (still memory other _ same))
   case_local turn (Unreadable d line same) =
       let l = line.no_packet in
       let at = text_address old.profile l.next in
-      unwritten (ToFetch l.next) turn (plan_fetches old memory l.next d.runs line.looks l.is_next l.owned) refl
+      unwritten (ToFetch l.next) turn (grind arith) refl
       (ap (written_by_fetch old memory) (fails _ _ (text_from memory at 48) l.unreadable)) same.memory_stays
       (λ other s body.
       let unreadable : HasText other at 48 → ⊥ = λ has. l.unreadable (text_there other memory (sym s.same) at 48 has) in
@@ -536,7 +522,7 @@ module _ (old : PortState) (memory : List ℕ) (j : ℕ) (new : PortState) (memo
       owns other s = λ text next.
           let f = none text next in
           let at : looks_at_responses old ≡ true = grind arith in
-          record { next = f.next; is_next = s.response at ∙ f.is_next; not_owned = f.not_owned }
+          search (f, s.response at ∙ f.is_next)
 
       waits : (other : List ℕ) → SameDescriptors old memory other → CaseIn turn other other
       waits other s = Waits d (reaches_there other s d.runs reaches) (owns other s) (still memory other _ same)
@@ -545,28 +531,20 @@ module _ (old : PortState) (memory : List ℕ) (j : ℕ) (new : PortState) (memo
       by (NoneWaits plan) = unwritten NoMessage turn plan refl refl same.memory_stays (λ other s body. waits other s)
       by (Waiting plan) = unwritten ToWait turn plan refl refl same.memory_stays (λ other s body. waits other s)
   case_local turn (ResponseRingLost d reaches line same) =
-      unwritten NoResponseRing turn (plan_lost old memory d.runs reaches line.text line.is_next line.no_descriptor) refl refl
-      same.memory_stays (λ other s body. ResponseRingLost d (reaches_there other s d.runs reaches)
-      (record { text = line.text; is_next = line.is_next; no_descriptor = s.response (grind arith) ∙ line.no_descriptor })
-      (still memory other _ same))
+      unwritten NoResponseRing turn (grind arith) refl refl same.memory_stays
+      (λ other s body. ResponseRingLost d (reaches_there other s d.runs reaches)
+      (search (line, s.response (grind arith) ∙ line.no_descriptor)) (still memory other _ same))
   case_local turn (NoRoom d reaches line same) =
       let l = line.no_room in
       let n = length line.text in
       let at = text_address old.profile l.next in
-      unwritten (ToDeliver l.next n) turn
-      (plan_delivers old memory d.runs reaches line.text l.next line.is_next l.is_next l.owned) refl
+      unwritten (ToDeliver l.next n) turn (grind arith) refl
       (ap (written_by_delivery old memory (range_at at n)) (fails _ _ (room_from old.profile memory at n) l.no_room))
-      same.memory_stays (λ other s body. NoRoom d (reaches_there other s d.runs reaches) (record {
-        text = line.text;
-        is_next = line.is_next;
-        no_room = record {
-          next = l.next;
-          is_next = s.response (grind arith) ∙ l.is_next;
-          owned = l.owned;
-          no_room = λ has. l.no_room
-              (room_from _ _ _ _ (sym (room_there memory other s.same old.profile at n (body refl)) ∙ room_true _ _ _ _ has));
-        };
-      }) (still memory other _ same))
+      same.memory_stays (λ other s body.
+      let no_room : HasRoom old.profile other at n → ⊥ = λ has. l.no_room
+      (room_from _ _ _ _ (sym (room_there memory other s.same old.profile at n (body refl)) ∙ room_true _ _ _ _ has)) in
+      NoRoom d (reaches_there other s d.runs reaches)
+      (search (line, l, no_room, s.response (grind arith) ∙ l.is_next)) (still memory other _ same))
 
 -- ---- the plan elsewhere
 

@@ -1,7 +1,7 @@
 -- A turn changes only the blocks that it uses.
 use Rattle.std.proofs.lemmas.Bool.Decides.{nat_tests}
 use Rattle.std.proofs.Common.{arith}
-use Rattle.std.proofs.Common.{◌≡◌, ℕ, false, List, [], Option, Some, None, refl, sym, ap, subst}
+use Rattle.std.proofs.Common.{◌≡◌, ℕ, false, List, [], Option, Some, None, refl, ap}
 use Rattle.uda_exec.specs.BlockChanges.{ChangesOnly}
 use Rattle.uda_exec.proofs.BlockChangesLaw.{only_used_blocks_change}
 use Rattle.uda_port.specs.declared.memory_use.Missing.{Missing}
@@ -49,17 +49,14 @@ module _ (old : PortState) (memory : List ℕ) (j : ℕ) (new : PortState) (memo
       by : Outcome (λ k. k ≡ j) turn (record { old = old; memory = memory; new = new; memory_after = memory_after })
           → Changes (memory_executed plan Usual memory)
       by (Executing planned executes k at x) =
-          subst (λ (p : Plan). Changes (memory_executed p Usual memory)) (sym planned)
-          (executed memory memory_after
-          (subst (λ (i : ℕ). ExecutesOne i (port_not_polling (port_turn_on old)) memory new memory_after) at x))
+          rw planned (executed memory memory_after (rw at at x))
       by (Other none never same) = unchanged _ (none_executed plan Usual memory none) same
   by_fate missing (FailsInFetch cause) turn is it =
       unchanged _ (none_failed plan (FailsInFetch cause) memory refl) (ap units_of it.0.died)
   by_fate missing (FailsLater cause) turn is it =
       unchanged _ (none_failed plan (FailsLater cause) memory refl) (ap units_of it.0.died)
   by_fate missing WithoutBuffer turn is it =
-      subst (λ (p : Plan). Changes (memory_executed p WithoutBuffer memory))
-      (sym (without_buffer old.phase missing (may_fetch old) plan is)) (executed [] [] it.0.executes)
+      rw (without_buffer old.phase missing (may_fetch old) plan is) (executed [] [] it.0.executes)
 
 pub turn_changes : (missing : Missing) (place : ℕ) (old : PortState) (memory : List ℕ) (turn : Turn) (new : PortState)
     (memory_after : List ℕ) → HasValidRings old

@@ -1,5 +1,5 @@
 -- What a turn does, it does in each memory that agrees where the turn reads.
-use Rattle.std.proofs.Common.{◌≡◌, ℕ, zero, suc, ◌+◌, ◌-◌, ◌<◌, ◌≤◌, min, Bool, true, false, List, [], ◌∷◌, length, Option, Some, None, refl, sym, ap, subst, ◌∙◌, arith, length-append}
+use Rattle.std.proofs.Common.{◌≡◌, ℕ, zero, suc, ◌+◌, ◌-◌, ◌<◌, ◌≤◌, min, Bool, true, false, List, [], ◌∷◌, length, Option, Some, None, refl, sym, ap, ◌∙◌, arith, length-append}
 use Rattle.std.specs.Prelude.{◌++◌, All, nat_eq, slice_get}
 use Rattle.std.proofs.lemmas.Bool.{eq-eqb}
 use Rattle.std.proofs.lemmas.Bool.Decides.{nat_tests}
@@ -161,14 +161,12 @@ range_at at n = record { at = at; bytes = n }
 indicator_ranges : (indicator : Option ℕ)
     → record { at = (indicator_write indicator).at; bytes = length (indicator_write indicator).bytes }
     ≡ indicator_range indicator
-indicator_ranges None = refl
-indicator_ranges (Some at) = ap (range_at at) (length-word_bytes 1)
+indicator_ranges indicator = grind (arith, length-word_bytes)
 
 puts_indicator : (indicator : Option ℕ) (memory : List ℕ)
     → put memory (indicator_write indicator).at (indicator_write indicator).bytes
     ≡ memory_with_indicator memory indicator
-puts_indicator None memory = put-nil memory 0
-puts_indicator (Some at) memory = refl
+puts_indicator indicator memory = grind (arith, put-nil)
 
 -- by a fetch
 abbrev fetch_writes : Option ℕ → RingState → Descriptor → List Write
@@ -493,8 +491,7 @@ module _ (old : PortState) (memory : List ℕ) (j : ℕ) (new : PortState) (memo
         others = rw (s.told (grind arith)) line.others;
       }))
   case_local turn (Executes d nothing k is line) =
-      executed_local turn d nothing
-      (subst (λ (i : ℕ). ExecutesOne i idle_on memory new memory_after) is line)
+      executed_local turn d nothing (rw is at line)
   case_local turn (DeliversEnd d reaches line) =
       put_message (next_grant old.deliveries) (end_text old line.end) new.responses d.runs reaches
       (first_text old line.end line.none_due (rw line.first)) line.puts turn
@@ -561,12 +558,6 @@ fate_there : (missing : Missing) (port : PortState) (memory other : List ℕ)
 fate_there missing port memory other s = grind (arith, nat_tests)
 
 module _ (port : PortState) (memory other : List ℕ) (j : ℕ) (s : SameDescriptors port memory other) where
-  reads_by : (p : Plan) → (use_by port other j p).reads_body ≡ (use_by port memory j p).reads_body
-  reads_by p = grind arith
-
-  body_by : (p : Plan) → (use_by port other j p).body ≡ (use_by port memory j p).body
-  body_by p = grind (arith, s.same)
-
   written_by_plan : (p : Plan) → plan_of port memory ≡ p
       → ((use_by port memory j p).reads_body ≡ true → SameIn memory other (use_by port memory j p).body)
       → (use_by port other j p).written ≡ (use_by port memory j p).written
@@ -586,13 +577,13 @@ pub body_there : (port : PortState) (memory other : List ℕ) (j : ℕ) → Agre
     → (use_of port other j).body ≡ (use_of port memory j).body
 body_there port memory other j agrees =
     let s = same_descriptors port memory other agrees.same_length agrees.same_descriptors in
-    rw (plan_there port memory other s) (body_by port memory other j s (plan_of port memory))
+    grind (arith, plan_there port memory other s, s.same)
 
 pub reads_there : (port : PortState) (memory other : List ℕ) (j : ℕ) → AgreesInDescriptors port memory other
     → (use_of port other j).reads_body ≡ (use_of port memory j).reads_body
 reads_there port memory other j agrees =
     let s = same_descriptors port memory other agrees.same_length agrees.same_descriptors in
-    rw (plan_there port memory other s) (reads_by port memory other j s (plan_of port memory))
+    grind (arith, plan_there port memory other s)
 
 pub written_there : (missing : Missing) (j n : ℕ) (port : PortState) (memory other : List ℕ)
     → Agrees port j memory other → written_of missing (port, memory) j n ≡ written_of missing (port, other) j n
@@ -659,10 +650,6 @@ executes_pending old memory new memory_after pending turn runs goes = grind (ari
 
 -- ---- the code
 
-pub no_bytes : (xs : List ℕ) → length xs ≡ 0 → xs ≡ []
-no_bytes [] none = refl
-no_bytes (x ∷ xs) none = absurd (omega arith)
-
 pub none_lies : (memory : List ℕ) → All (LiesIn memory) NONE_WRITTEN
 none_lies memory = grind (arith, nat_tests)
 
@@ -711,12 +698,10 @@ fate_lies memory fate written lies = grind (arith, nat_tests)
 
 pub after_lies : (memory : List ℕ) (p : Plan) (n : ℕ) (ranges : List ByteRange) → All (LiesIn memory) ranges
     → All (LiesIn memory) (written_after p n ranges)
-after_lies memory ToExecute n [] lies = lies
 after_lies memory ToExecute n (r ∷ rest) lies =
-    let P = LiesIn memory in
-    let first = All-head P r rest lies in
-    All-cons P (first_of r n) rest (omega (arith, first)) (All-tail P r rest lies)
-after_lies memory _ n ranges lies = lies
+    All-cons (LiesIn memory) (first_of r n) rest (omega (arith, All-head (LiesIn memory) r rest lies))
+    (All-tail (LiesIn memory) r rest lies)
+after_lies memory _ n _ lies = lies
 
 -- a port that can have the fate of its turn
 pub fate_fails : (profile : Profile) (phase : Phase) (missing : Missing) (looks : Bool) (plan : Plan)

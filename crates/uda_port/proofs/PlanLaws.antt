@@ -1,17 +1,14 @@
 -- A turn is one of the cases of its plan.
 use Rattle.std.proofs.lemmas.Bool.Decides.{nat_tests}
-use Rattle.std.proofs.Common.{◌≡◌, ℕ, ◌<◌, true, false, List, [], length, Option, Some, None, Result, refl, sym, ap, subst, ◌∙◌, arith}
-use Rattle.std.specs.Prelude.{option_map}
+use Rattle.std.proofs.Common.{◌≡◌, ℕ, ◌<◌, false, List, length, Result, refl, sym, ap, subst, ◌∙◌, arith}
 use Rattle.uda_packet.specs.declared.guest_command.GuestCommand.{GuestCommand}
 use Rattle.uda_packet.specs.declared.reply.Reply.{Reply}
 use Rattle.uda_disk.specs.Units.{Units}
 use Rattle.uda_port.specs.MemoryUse.{TurnsAt}
 use Rattle.uda_port.specs.Events.{Delivers}
 use Rattle.uda_port.specs.Port.{PortState}
-use Rattle.uda_port.specs.Report.{next_text}
 use Rattle.uda_port.specs.Fetch.{IsNext}
 use Rattle.uda_port.specs.Startup.{failed_port}
-use Rattle.uda_port.specs.declared.descriptor.Descriptor.{Descriptor}
 use Rattle.uda_port.specs.declared.phase.Fatal.{Fatal}
 use Rattle.uda_port.specs.declared.phase.Phase.{Phase}
 use Rattle.uda_port.specs.declared.phase.Phase.TheVariants.{Running}
@@ -19,10 +16,9 @@ use Rattle.uda_port.specs.declared.turn.Turn.{Turn}
 use Rattle.uda_port.specs.declared.plan.Plan.{Plan}
 use Rattle.uda_port.specs.declared.phase.Fatal.TheVariants as fatal
 use Rattle.uda_port.specs.declared.turn.Turn.TheVariants as did
-use Rattle.uda_port.specs.declared.plan.Plan.TheVariants.{AtRest, NoCommandRing, ToFetch, ToExecute, NoMessage, ToWait, NoResponseRing, ToDeliver}
-use Rattle.uda_port.specs.Plan.{plan_later, plan_of, Step, counted, stopped_polling, is_execution, is_executed, rest_turn, TurnIs, TurnCase, Rests, CommandRingLost, Unreadable, Exceeds, BadConnection, Fetches, Executes, DeliversEnd, Notifies, Waits, ResponseRingLost, NoRoom}
-use Rattle.uda_port.specs.Ring.{is_owned, next_descriptor}
-use Rattle.uda_port.specs.Turn.{Unchanged, TurnEffect, RunningTurn, NothingToFetch, NothingToDeliver, ExecutesOne, Fails, InFetch, InRest, may_fetch, port_with_message}
+use Rattle.uda_port.specs.declared.plan.Plan.TheVariants.{ToFetch, ToExecute, NoMessage, ToWait, ToDeliver}
+use Rattle.uda_port.specs.Plan.{plan_of, Step, counted, stopped_polling, is_execution, is_executed, rest_turn, TurnIs, TurnCase, Rests, CommandRingLost, Unreadable, Exceeds, BadConnection, Fetches, Executes, DeliversEnd, Notifies, Waits, ResponseRingLost, NoRoom}
+use Rattle.uda_port.specs.Turn.{Unchanged, TurnEffect, RunningTurn, NothingToFetch, NothingToDeliver, ExecutesOne, Fails, InFetch, InRest, port_with_message}
 use Rattle.uda_port.proofs.TurnLaws.{attention_first, first_text}
 
 -- ---- a turn is one of its cases
@@ -125,36 +121,11 @@ pub some_executed : (old : PortState) (memory : List ℕ) (j : ℕ) (new : PortS
 some_executed old memory j new memory_after x = grind (arith, nat_tests)
 
 module _ (port : PortState) (memory : List ℕ) where
-  pub plan_rests : (port.phase ≡ Running → ⊥) → plan_of port memory ≡ AtRest
-  plan_rests rests = grind arith
-
-  pub plan_outside : port.phase ≡ Running → may_fetch port ≡ true → next_descriptor memory port.commands ≡ None
-      → plan_of port memory ≡ NoCommandRing
-  plan_outside runs looks none = grind arith
-
-  pub plan_fetches : (d : Descriptor) → port.phase ≡ Running → may_fetch port ≡ true
-      → next_descriptor memory port.commands ≡ Some d → is_owned d ≡ true → plan_of port memory ≡ ToFetch d
-  plan_fetches d runs looks next owned = grind arith
-
   pub plan_executes : port.phase ≡ Running → NothingToFetch port memory → 0 < length port.exec.pending
       → plan_of port memory ≡ ToExecute
   plan_executes runs nothing pending = grind arith
 
   module _ (runs : port.phase ≡ Running) (waits : Delivers port memory) where
-    plan_speaks : {text : Option (List ℕ)} → next_text port ≡ text
-        → plan_of port memory
-        ≡ plan_later [] (option_map (λ (t : List ℕ). length t) text) (next_descriptor memory port.responses)
-    plan_speaks next = grind arith
-
-    pub plan_lost : (text : List ℕ) → next_text port ≡ Some text → next_descriptor memory port.responses ≡ None
-        → plan_of port memory ≡ NoResponseRing
-    plan_lost text next none = grind arith
-
-    pub plan_delivers : (text : List ℕ) (d : Descriptor) → next_text port ≡ Some text
-        → next_descriptor memory port.responses ≡ Some d → is_owned d ≡ true
-        → plan_of port memory ≡ ToDeliver d (length text)
-    plan_delivers text d next is owned = grind arith
-
     -- nothing is delivered: there is no message, or it waits
     pub data IsQuiet : Type 0 where
       NoneWaits : plan_of port memory ≡ NoMessage → IsQuiet

@@ -1,7 +1,6 @@
 -- What is posted in a ring, from its next descriptor on; and that a fetch follows ring order.
 use Rattle.std.proofs.lemmas.Bool.Decides.{nat_tests}
-use Rattle.std.proofs.Common.{◌≡◌, ℕ, ◌^◌, mod-eq_of_lt, ◌+◌, ◌*◌, ◌%◌, ◌<◌, ◌≤◌, inl, inr, Bool, true, false, List, [], ◌∷◌, ◌++◌, length, get_or, set, take, drop, Option, Some, None, refl, sym, ◌∙◌, arith, length-set}
-use Rattle.std.specs.Prelude.{if◌then◌else◌}
+use Rattle.std.proofs.Common.{◌≡◌, ℕ, ◌^◌, mod-eq_of_lt, ◌+◌, ◌*◌, ◌%◌, ◌<◌, ◌≤◌, inl, inr, true, false, List, [], ◌∷◌, ◌++◌, length, get_or, set, take, drop, Option, Some, None, refl, sym, ◌∙◌, arith, length-set}
 use Rattle.std.proofs.lemmas.List.{drop_more, append_assoc, append-nil, same_lists, get_or-set_same, get_or-set_other, drop-set-lt, take_more_set, drop_all, take_all}
 use Rattle.std.proofs.lemmas.List.FromFn.{length-map-range_with_len, get_or-map-range_with_len}
 use Rattle.std.proofs.Math.Nat.{mod_self}
@@ -45,20 +44,14 @@ pub none_posted : (memory : List ℕ) (r : RingState) → r.place < r.count
     → descriptor_at memory (descriptor_address r) ≡ None → posted_in memory r ≡ []
 none_posted memory r within h = rw (rotated memory r within, h)
 
-posted_next : (memory : List ℕ) (r : RingState) (d : Descriptor) (own : Bool) → r.place < r.count
-    → descriptor_at memory (descriptor_address r) ≡ Some d → is_owned d ≡ own
-    → posted_in memory r ≡ (if own then d ∷ owned_front (behind memory r) else [])
-posted_next memory r d own within h owned =
-    rw (rotated memory r within, h, owned)
-
 pub not_owned_posted : (memory : List ℕ) (r : RingState) (d : Descriptor) → r.place < r.count
     → descriptor_at memory (descriptor_address r) ≡ Some d → is_owned d ≡ false → posted_in memory r ≡ []
-not_owned_posted memory r d within h owned = posted_next memory r d false within h owned
+not_owned_posted memory r d within h owned = rw (rotated memory r within, h, owned)
 
 pub owned_posted : (memory : List ℕ) (r : RingState) (d : Descriptor) → r.place < r.count
     → descriptor_at memory (descriptor_address r) ≡ Some d → is_owned d ≡ true
     → posted_in memory r ≡ d ∷ owned_front (behind memory r)
-owned_posted memory r d within h owned = posted_next memory r d true within h owned
+owned_posted memory r d within h owned = rw (rotated memory r within, h, owned)
 
 -- a descriptor that the host owns ends a run at any index
 owned_front-append : (ds : List (Option Descriptor)) (d : Descriptor) → is_owned d ≡ false

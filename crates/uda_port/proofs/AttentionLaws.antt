@@ -99,8 +99,6 @@ module _ (old : PortState) (memory : List ℕ) (new : PortState) (memory_after :
   pub nearer : (turn : Turn) → TurnEffect old.phase old memory turn new memory_after → ComesNearer old turn new
   nearer turn goes = running_nearer turn (runs turn goes)
 
--- ---- the most of any port
-
 -- ---- turns one after another
 
 lives_nearer : (old : PortState) (turn : Turn) (new : PortState) → (turn ≡ Dead → ⊥) → ComesNearer old turn new

@@ -9,14 +9,10 @@ use Rattle.uda_port.specs.declared.play.HostEvent.{HostEvent}
 use Rattle.uda_port.specs.declared.phase.Phase.TheVariants.{Running, Dead}
 use Rattle.uda_port.specs.declared.play.HostEvent.TheVariants.{WriteIp, WriteSa, Turn as TurnEvent}
 use Rattle.uda_port.specs.Port.{PortState}
-use Rattle.uda_port.specs.Startup.{after_sa_write, failed_port}
+use Rattle.uda_port.specs.Startup.{after_sa_write}
 use Rattle.uda_port.specs.Plan.{Step, counted}
 use Rattle.uda_port.proofs.PlanLaws.{AnyCase, case_of, step_of}
 use Rattle.uda_port.specs.Events.{EventEffect, EventsEffect, FatalTurn, FatalWord, MeetsCause, LeavesIp, DiedAtEvent, StaysDead, DeathHasCause}
-
--- the phase of equal ports
-phases : {a b : PortState} → a ≡ b → a.phase ≡ b.phase
-phases is = grind (arith, nat_tests)
 
 -- ---- a word of initialization
 
@@ -34,13 +30,6 @@ module _ (cause : Fatal) (word : ℕ) (old new : PortState) (memory : List ℕ) 
 module _ (cause : Fatal) (turn : Turn) (s : Step) (dead : s.new.phase ≡ Dead cause) where
   abbrev Met : Type 0
   Met = (s.old.phase ≡ Dead cause) ⊎ ((s.old.phase ≡ Running) × FatalTurn cause (counted s) s.memory)
-
-  -- the port failed with the cause that it met
-  met : {x : Fatal} (before : PortState) → s.old.phase ≡ Running → s.new ≡ failed_port before x
-      → FatalTurn x (counted s) s.memory → Met
-  met {x = x} before runs is fatal =
-      let same : x ≡ cause = cc (phases is) in
-      inr (runs, rw same at fatal)
 
   -- a port that is dead after a turn was dead before it, or the turn met a cause
   fatal_turn : AnyCase turn s → Met

@@ -89,7 +89,8 @@ module _ (memory other : List ℕ) (same : length other ≡ length memory) where
       → next_descriptor other r ≡ next_descriptor memory r
   looked_same true r h looks =
       let at = descriptor_address r in
-      rw (same, word_there at 4 at h (omega arith) (omega arith), word_there at 4 (at + 2) h (omega arith) (omega arith))
+      let low = word_there at 4 at h (omega arith) (omega arith) in
+      rw (same, low, word_there at 4 (at + 2) h (omega arith) (omega arith))
   looked_same false r h looks = absurd (cc)
 
   -- a packet
@@ -274,7 +275,8 @@ delivery_with port credits indicator =
     record { profile = port.profile; credits = credits; indicator = indicator }
 
 -- only an executed command wrote less than it may
-all_written : (p : Plan) → is_execution p ≡ false → (n : ℕ) (ranges : List ByteRange) → written_after p n ranges ≡ ranges
+all_written : (p : Plan) → is_execution p ≡ false → (n : ℕ) (ranges : List ByteRange)
+    → written_after p n ranges ≡ ranges
 all_written p is n ranges = grind arith
 
 -- one turn: the port before and after it, its memory, and the command at index j
@@ -335,9 +337,9 @@ module _ (old : PortState) (memory : List ℕ) (j : ℕ) (new : PortState) (memo
       → Unchanged port other new other
   still before other port same = grind (arith, nat_tests)
 
-  nothing_there : (other : List ℕ) → SameDescriptors old memory other → (may_fetch old ≡ true → looks_at_commands old ≡ true)
+  nothing_there : (other : List ℕ) → SameDescriptors old memory other → old.phase ≡ Running
       → NothingToFetch old memory → NothingToFetch old other
-  nothing_there other s at nothing = grind (arith, nat_tests)
+  nothing_there other s runs nothing = grind (arith, nat_tests)
 
   reaches_there : (other : List ℕ) → SameDescriptors old memory other → old.phase ≡ Running → Delivers old memory
       → Delivers old other
@@ -448,9 +450,9 @@ module _ (old : PortState) (memory : List ℕ) (j : ℕ) (new : PortState) (memo
       (rw is (simp (put_empty, clipped) changes)) (λ other same. rw is (simp (put_empty, few, clipped)))
       (λ other s body.
       let shared = read_in memory other (record { command = c; op = op }) s.same (rw is at body) in
-      let executes = executes_as_elsewhere op c old.exec.units new.exec.units memory other memory_after x.end s.same shared
-      g.executes in
-      Executes d (nothing_there other s (λ may. grind arith) nothing) j refl (record {
+      let executes = executes_as_elsewhere op c old.exec.units new.exec.units memory other memory_after x.end s.same
+      shared g.executes in
+      Executes d (nothing_there other s d.runs nothing) j refl (record {
         end = x.end;
         executes = executes_for old.profile j old.exec other x.end new.exec _ valid.strict (search (g, executes));
         others = x.others;
@@ -465,7 +467,8 @@ module _ (old : PortState) (memory : List ℕ) (j : ℕ) (new : PortState) (memo
   case_local turn (CommandRingLost d line same) =
       unwritten NoCommandRing turn (grind arith) refl refl
       same.memory_stays
-      (λ other s body. CommandRingLost d (search (line, s.command (grind arith) ∙ line.no_descriptor)) (still memory other _ same))
+      (λ other s body. CommandRingLost d (search (line, s.command (grind arith) ∙ line.no_descriptor))
+      (still memory other _ same))
   case_local turn (Unreadable d line same) =
       let l = line.no_packet in
       let at = text_address old.profile l.next in
@@ -570,7 +573,8 @@ module _ (port : PortState) (memory other : List ℕ) (j : ℕ) (s : SameDescrip
   written_by_plan ToExecute is h = grind (arith, s.same)
   written_by_plan (ToDeliver d n) is h =
       let looks : looks_at_responses port ≡ true = grind arith in
-      rw (room_there memory other s.same port.profile (text_address port.profile d) n (h refl)) (grind (arith, s.answered looks))
+      rw (room_there memory other s.same port.profile (text_address port.profile d) n (h refl))
+      (grind (arith, s.answered looks))
   written_by_plan _ is h = refl
 
 pub body_there : (port : PortState) (memory other : List ℕ) (j : ℕ) → AgreesInDescriptors port memory other
@@ -643,7 +647,8 @@ module _ (missing : Missing) (j : ℕ) (old : PortState) (memory : List ℕ) (tu
       unchanged WithoutBuffer is _ refl refl effect.1 (λ other. (effect.0, refl))
 
 -- a port that doesn't poll executes a pending command
-pub executes_pending : (old : PortState) (memory : List ℕ) (new : PortState) (memory_after : List ℕ) → 0 < length old.exec.pending
+pub executes_pending : (old : PortState) (memory : List ℕ) (new : PortState) (memory_after : List ℕ)
+    → 0 < length old.exec.pending
     → (turn : Turn) → old.phase ≡ Running
     → TurnEffect old.phase (port_not_polling old) memory turn new memory_after → turn ≡ did.Executed
 executes_pending old memory new memory_after pending turn runs goes = grind (arith, nat_tests)

@@ -13,7 +13,7 @@ use Rattle.uda_port.specs.declared.profile.Profile.TheVariants.{Strict, Compatib
 use Rattle.uda_port.specs.Interrupt.{raised_by_step, raised, interrupts_asked, noted}
 use Rattle.uda_port.specs.PortInvariant.{PortInvariant, IsPossible}
 use Rattle.uda_port.specs.Port.{PortState, port_after_ip_read}
-use Rattle.uda_port.specs.Possible.{has_run, has_phase, CanDie, is_step_3, can_interrupt, rings_fit, addresses_by, guest_fits, queue_fits, HasNoWork}
+use Rattle.uda_port.specs.Possible.{has_run, CanDie, is_step_3, can_interrupt, rings_fit, addresses_by, guest_fits, queue_fits, HasNoWork}
 use Rattle.uda_port.specs.Ring.{RingState}
 use Rattle.uda_port.specs.Startup.{has_bit, refuses_second, refuses_third, asks_test, after_sa_write}
 use Rattle.uda_port.proofs.PossibleLaws.{same_guest, by_death, by_step, by_indicator, rings_move}
@@ -106,10 +106,6 @@ pub enters_step_4 : {S : Type 0} (p : Inside S) (responses commands : RingState)
     })
 enters_step_4 p responses commands step set is =
     grind (arith, not_run_in_3, same_guest, by_step, third_interrupts, set_fit)
-
--- a port that tests is compatible
-tests : (profile : Profile) (word : ℕ) → asks_test profile word ≡ true → has_phase profile PurgeTest ≡ true
-tests profile word asks = grind (arith, nat_tests)
 
 pub enters_test : {S : Type 0} (p : Inside S) (responses commands : RingState) (word : ℕ)
     → is_step_3 p.phase ≡ true → AreSet p.profile responses commands → asks_test p.profile word ≡ true

@@ -89,7 +89,8 @@ ring_after : (memory : List ℕ) (r : RingState) (word : ℕ) → r.place < r.co
     ≡ set (ring memory r.base r.count) r.place
     (Some (record { low = word_at memory (descriptor_address r); high = word }))
 ring_after memory r word within room fits =
-    let memory' = put memory (descriptor_address r + 2) (word_bytes word) in
+    let at = descriptor_address r + 2 in
+    let memory' = put memory at (word_bytes word) in
     let all = ring memory r.base r.count in
     let size = length-ring memory r.base r.count in
     let size' = length-ring memory' r.base r.count in
@@ -105,8 +106,8 @@ ring_after memory r word within room fits =
       | inr apart ↦
           rw (
             length-put,
-            word_at-put_apart memory (descriptor_address r + 2) (word_bytes word) (r.base + 4 * k) (λ meet. omega arith),
-            word_at-put_apart memory (descriptor_address r + 2) (word_bytes word) (r.base + 4 * k + 2) (λ meet. omega arith),
+            word_at-put_apart memory at (word_bytes word) (r.base + 4 * k) (λ meet. omega arith),
+            word_at-put_apart memory at (word_bytes word) (r.base + 4 * k + 2) (λ meet. omega arith),
             get_or-set_other all r.place k given d apart,
           ) (sym (get_or-ring memory r.base r.count k d inside))
     ])

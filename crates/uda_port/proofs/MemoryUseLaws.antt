@@ -577,6 +577,11 @@ module _ (port : PortState) (memory other : List ℕ) (j : ℕ) (s : SameDescrip
       (grind (arith, s.answered looks))
   written_by_plan _ is h = refl
 
+pub plan_agrees : (port : PortState) (memory other : List ℕ) → AgreesInDescriptors port memory other
+    → plan_of port other ≡ plan_of port memory
+plan_agrees port memory other agrees =
+    plan_there port memory other (same_descriptors port memory other agrees.same_length agrees.same_descriptors)
+
 pub body_there : (port : PortState) (memory other : List ℕ) (j : ℕ) → AgreesInDescriptors port memory other
     → (use_of port other j).body ≡ (use_of port memory j).body
 body_there port memory other j agrees =
@@ -666,30 +671,30 @@ pub delivery_lies : (port : PortState) (memory : List ℕ) (text : ByteRange) (i
 delivery_lies port memory text indicator short room below within size told returned is_size is_told is_returned =
     grind (arith, nat_tests)
 
-pub delivery_none : (port : PortState) (memory : List ℕ) (text body : ByteRange)
-    → body ≡ packet_range memory text.at text.bytes
-    → (HasRoom port.profile memory text.at text.bytes → ⊥)
-    → record { body = body; reads_body = true; written = NONE_WRITTEN } ≡ delivery_use port memory text
-delivery_none port memory text body is never = grind (arith, nat_tests)
+pub fetch_lies : (port : PortState) (memory : List ℕ) (indicator : Option ℕ) → IsBelow indicator port.commands.base
+    → descriptor_address port.commands + 4 ≤ length memory → (told returned : ByteRange)
+    → told ≡ indicator_range indicator → returned ≡ returned_range port.commands
+    → All (LiesIn memory) (told ∷ returned ∷ EMPTY_RANGE ∷ EMPTY_RANGE ∷ [])
+fetch_lies port memory indicator below within told returned is_told is_returned = grind (arith, nat_tests)
 
-pub delivery_is : (port : PortState) (memory : List ℕ) (text body : ByteRange) (size : ℕ)
-    (told returned : ByteRange) → size ≡ text.bytes → body ≡ packet_range memory text.at text.bytes
-    → told ≡ indicator_range (response_indicator port memory) → returned ≡ returned_range port.responses
-    → HasRoom port.profile memory text.at text.bytes
-    → record {
-      body = body;
-      reads_body = true;
-      written = range_at text.at size ∷ range_at (text.at - 4) 4 ∷ told ∷ returned ∷ [];
-    } ≡ delivery_use port memory text
-delivery_is port memory text body size told returned is_size is_body is_told is_returned room = grind (arith, nat_tests)
+pub delivery_none : (port : PortState) (memory : List ℕ) (text : ByteRange)
+    → (HasRoom port.profile memory text.at text.bytes → ⊥) → NONE_WRITTEN ≡ (delivery_use port memory text).written
+delivery_none port memory text never = grind (arith, nat_tests)
 
-pub fetch_is : (port : PortState) (memory : List ℕ) (d : Descriptor) (at : ℕ) (body : ByteRange)
-    (readable : Bool) (written : List ByteRange) → at ≡ text_address port.profile d
-    → body ≡ packet_range memory at 48 → written ≡ written_by_fetch port memory readable
-    → (readable ≡ true → HasText memory at 48) → (HasText memory at 48 → readable ≡ true)
-    → record { body = body; reads_body = true; written = written }
-    ≡ fetch_use port memory (text_address port.profile d)
-fetch_is port memory d at body readable written is_at is_body is_written has is = grind (arith, nat_tests)
+pub delivery_is : (port : PortState) (memory : List ℕ) (text : ByteRange) (size : ℕ) (told returned : ByteRange)
+    → size ≡ text.bytes → told ≡ indicator_range (response_indicator port memory)
+    → returned ≡ returned_range port.responses → HasRoom port.profile memory text.at text.bytes
+    → range_at text.at size ∷ range_at (text.at - 4) 4 ∷ told ∷ returned ∷ [] ≡ (delivery_use port memory text).written
+delivery_is port memory text size told returned is_size is_told is_returned room = grind (arith, nat_tests)
+
+pub fetch_none : (port : PortState) (memory : List ℕ) (at : ℕ) → (HasText memory at 48 → ⊥)
+    → NONE_WRITTEN ≡ (fetch_use port memory at).written
+fetch_none port memory at never = grind (arith, nat_tests)
+
+pub fetch_is : (port : PortState) (memory : List ℕ) (at : ℕ) (told returned : ByteRange)
+    → told ≡ indicator_range (command_indicator port memory) → returned ≡ returned_range port.commands
+    → HasText memory at 48 → told ∷ returned ∷ EMPTY_RANGE ∷ EMPTY_RANGE ∷ [] ≡ (fetch_use port memory at).written
+fetch_is port memory at told returned is_told is_returned has = grind (arith, nat_tests)
 
 -- ---- fates
 

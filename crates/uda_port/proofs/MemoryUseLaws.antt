@@ -585,14 +585,12 @@ plan_agrees port memory other agrees =
 pub body_there : (port : PortState) (memory other : List ℕ) (j : ℕ) → AgreesInDescriptors port memory other
     → (use_of port other j).body ≡ (use_of port memory j).body
 body_there port memory other j agrees =
-    let s = same_descriptors port memory other agrees.same_length agrees.same_descriptors in
-    grind (arith, plan_there port memory other s, s.same)
+    grind (arith, plan_agrees port memory other agrees)
 
 pub reads_there : (port : PortState) (memory other : List ℕ) (j : ℕ) → AgreesInDescriptors port memory other
     → (use_of port other j).reads_body ≡ (use_of port memory j).reads_body
 reads_there port memory other j agrees =
-    let s = same_descriptors port memory other agrees.same_length agrees.same_descriptors in
-    grind (arith, plan_there port memory other s)
+    grind (arith, plan_agrees port memory other agrees)
 
 pub written_there : (missing : Missing) (j n : ℕ) (port : PortState) (memory other : List ℕ)
     → Agrees port j memory other → written_of missing (port, memory) j n ≡ written_of missing (port, other) j n

@@ -13,3 +13,4 @@ pub mod FittingUnits
 pub mod SavedUnits
 pub mod MapTurns
 mod WrittenBlocks
+mod BusRuns

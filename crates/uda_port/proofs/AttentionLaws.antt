@@ -1,69 +1,44 @@
 -- How soon an attention message that is due is delivered: what the effect of a turn says of it.
-use Rattle.std.proofs.Common.{◌≡◌, ◌≤◌, ◌<◌, ℕ, zero, suc, ◌+◌, Bool, true, false, List, [], ◌∷◌, ◌++◌, length, Option, Some, None, arith, refl, ap, subst}
+use Rattle.std.proofs.lemmas.Bool.Decides.{nat_tests}
+use Rattle.std.proofs.Common.{◌≡◌, ◌≤◌, ◌<◌, ℕ, zero, suc, ◌+◌, Bool, true, false, List, [], ◌∷◌, ◌++◌, length, Some, arith, ap}
 use Rattle.std.proofs.lemmas.List.{length-append, length-take, length-drop}
-use Rattle.std.specs.Prelude.{IsSome, set, take, drop, remove, slice_get, Result, Ok, Err, if◌then◌else◌}
+use Rattle.std.specs.Prelude.{set, take, drop, remove, slice_get, Result}
 use Rattle.std.specs.List.{position_or_len, before_first, after_first}
 use Rattle.uda_packet.specs.declared.guest_command.GuestCommand.{GuestCommand}
 use Rattle.uda_packet.specs.declared.reply.Reply.{Reply}
-use Rattle.uda_packet.specs.declared.reply.ReplyBody.{ReplyBody}
-use Rattle.uda_packet.specs.declared.reply.ReplyBody.TheVariants as body
 use Rattle.uda_exec.specs.Disks.{ExecState}
-use Rattle.uda_exec.specs.Named.{is_named}
 use Rattle.uda_port.specs.declared.guest.Guest.{Guest}
 use Rattle.uda_port.specs.declared.packet.Fetched.{Fetched as Packet}
-use Rattle.uda_port.specs.declared.phase.Phase.{Phase}
 use Rattle.uda_port.specs.declared.profile.Profile.{Profile}
-use Rattle.uda_port.specs.declared.profile.Profile.TheVariants.{Strict, Compatible}
 use Rattle.uda_port.specs.declared.turn.Turn.{Turn}
-use Rattle.uda_port.specs.declared.turn.Turn.TheVariants.{Fetched, Executed, Delivered, Notified, Idle, Dead}
-use Rattle.uda_port.specs.AtOnce.{exec_for, exec_at_once}
+use Rattle.uda_port.specs.declared.turn.Turn.TheVariants.{Fetched, Executed, Notified, Dead}
 use Rattle.uda_port.specs.Attention.{MayNotify, goes_before_ends, one_if, due_count, turns_to_notify, ComesNearer}
-use Rattle.uda_port.specs.Attention.{MOST_TURNS_TO_NOTIFY, UndeliveredTurn, AttentionArrives}
+use Rattle.uda_port.specs.Attention.{UndeliveredTurn, AttentionArrives}
 use Rattle.uda_port.specs.Guest.{is_due, first_due, guest_after}
 use Rattle.uda_port.specs.Message.{message_in, flags_kept}
-use Rattle.uda_port.specs.Port.{PortState, CreditsAgree}
-use Rattle.uda_port.specs.Report.{attention_text}
-use Rattle.uda_port.specs.Turn.{TurnEffect, RunningTurn, ExecutesFor, port_with_message, port_turn_on, port_not_polling}
-use Rattle.uda_port.proofs.TurnLaws.{attention_first}
+use Rattle.uda_port.specs.Port.{PortState}
+use Rattle.uda_port.specs.Turn.{TurnEffect, RunningTurn, ExecutesFor, port_with_message, port_turn_on}
 
 -- ---- due attention messages
 
 cleared : (xs : List Bool) (n k : ℕ) → one_if (is_due (set xs n false) k) ≤ one_if (is_due xs k)
-cleared [] n k = omega arith
 cleared (x ∷ xs) zero zero = omega arith
 cleared (x ∷ xs) (suc n) (suc k) = cleared xs n k
-cleared (x ∷ xs) _ _ = omega arith
+cleared _ _ _ = omega arith
 
 no_longer : (xs : List Bool) (k : ℕ) → is_due xs k ≡ true → one_if (is_due (set xs k false) k) < one_if (is_due xs k)
-no_longer [] k is = absurd (cc)
-no_longer (x ∷ xs) zero is = rw is (omega arith)
 no_longer (x ∷ xs) (suc k) is = no_longer xs k is
+no_longer _ _ is = grind arith
 
 fewer_or_same : (xs : List Bool) (n : ℕ) → due_count (set xs n false) ≤ due_count xs
 fewer_or_same xs n = omega (arith, cleared xs n)
 
-module _ (xs : List Bool) where
-  fewer_by : (a b c d : Bool) (drive : ℕ) → is_due xs 0 ≡ a → is_due xs 1 ≡ b → is_due xs 2 ≡ c → is_due xs 3 ≡ d
-      → (if a then Some 0 else if b then Some 1 else if c then Some 2 else if d then Some 3 else None) ≡ Some drive
-      → due_count (set xs drive false) < due_count xs
-  fewer_by true b c d drive is _ _ _ first =
-      let at : drive ≡ 0 = cc in rw at (omega (arith, cleared xs 0, no_longer xs 0 is))
-  fewer_by false true c d drive _ is _ _ first =
-      let at : drive ≡ 1 = cc in rw at (omega (arith, cleared xs 1, no_longer xs 1 is))
-  fewer_by false false true d drive _ _ is _ first =
-      let at : drive ≡ 2 = cc in rw at (omega (arith, cleared xs 2, no_longer xs 2 is))
-  fewer_by false false false true drive _ _ _ is first =
-      let at : drive ≡ 3 = cc in rw at (omega (arith, cleared xs 3, no_longer xs 3 is))
-  fewer_by false false false false drive _ _ _ _ first = absurd (cc)
-
-  fewer : (drive : ℕ) → first_due xs ≡ Some drive → due_count (set xs drive false) < due_count xs
-  fewer drive first = fewer_by _ _ _ _ drive refl refl refl refl first
+fewer : (xs : List Bool) (drive : ℕ) → first_due xs ≡ Some drive → due_count (set xs drive false) < due_count xs
+fewer xs drive first = grind (arith, cleared xs, no_longer xs)
 
 flags_attentions : (profile : Profile) (p : Packet) (message : Result GuestCommand Reply) (g : Guest)
     → (flags_kept profile p message g).attentions ≡ g.attentions
-flags_attentions Strict p message g = refl
-flags_attentions (Compatible identity) p (Err reply) g = refl
-flags_attentions (Compatible identity) p (Ok c) g = grind arith
+flags_attentions profile p message g = grind (arith, nat_tests)
 
 after_end : (e : Reply) (g : Guest) → due_count (guest_after e g).attentions ≤ due_count g.attentions
 after_end e g = grind (arith, fewer_or_same)
@@ -78,47 +53,23 @@ removed (y ∷ xs) (suc j) x is = omega (arith, removed xs j x is)
 executed : (profile : Profile) (j : ℕ) (old : ExecState) (memory : List ℕ) (r : Reply) (new : ExecState)
     (memory_after : List ℕ) → ExecutesFor profile j old memory r new memory_after
     → length new.pending < length old.pending
-executed Strict j old memory r new memory_after it =
-    let taken = it.executes.taken in
-    omega (arith, ap length taken.taken, removed old.pending j it.executes.command taken.stands)
-executed (Compatible identity) j old memory r new memory_after it =
-    omega (arith, ap length it.taken.taken, removed old.pending j it.command it.taken.stands)
+executed profile j old memory r new memory_after it = grind (arith, removed)
 
 others_left : {A : Type 0} (p : A → Bool) (xs : List A) → length (before_first p xs ++ after_first p xs) ≤ length xs
 others_left p xs =
     let n = position_or_len p xs in
     omega (arith, length-append (take n xs) (drop (n + 1) xs), length-take n xs, length-drop (n + 1) xs)
 
-at_once : (body : ReplyBody) (r : Reply) (exec : ExecState)
-    → length (exec_for body r exec).pending ≤ length exec.pending
-at_once (body.Abort named) r exec = others_left (is_named r.unit named) exec.pending
-at_once _ r exec = omega arith
-
-by_profile : (profile : Profile) (r : Reply) (exec : ExecState)
-    → length (exec_at_once profile r exec).pending ≤ length exec.pending
-by_profile Strict r exec = omega arith
-by_profile (Compatible identity) r exec = at_once r.body r exec
-
 with_message : (old : PortState) (message : Result GuestCommand Reply)
     → length (port_with_message old message).exec.pending ≤ length old.exec.pending + 1
-with_message old (Ok c) = omega (arith, length-append old.exec.pending (c.command ∷ []))
-with_message old (Err r) = omega (arith, by_profile old.profile r old.exec)
+with_message old message = grind (arith, length-append, others_left)
 
 -- ---- a turn
-
-some_of : {A : Type 0} (o : Option A) → IsSome o → (x : A) × (o ≡ Some x)
-some_of None is = absurd (cc)
-some_of (Some x) is = (x, refl)
 
 module _ (old : PortState) (memory : List ℕ) (new : PortState) (memory_after : List ℕ)
     (may : MayNotify old memory) where
   running_first : (turn : Turn) → RunningTurn old memory turn new memory_after → goes_before_ends turn ≡ true
-  running_first Delivered goes = absurd (cc (may.due, goes.rest.1.none_due))
-  running_first Idle goes =
-      let text = some_of (attention_text old) may.due in
-      let host = goes.rest.1.0 text.0 (attention_first (port_not_polling (port_turn_on old)) text.0 text.1) in
-      absurd (cc (host.is_next, host.not_owned, may.free.is_next, may.free.owned))
-  running_first _ goes = refl
+  running_first turn goes = grind (arith, nat_tests)
 
   running_nearer : (turn : Turn) → RunningTurn old memory turn new memory_after → ComesNearer old turn new
   running_nearer Fetched goes =
@@ -136,48 +87,28 @@ module _ (old : PortState) (memory : List ℕ) (new : PortState) (memory_after :
   running_nearer Notified goes =
       let one = goes.rest.1 in rw one.others (omega (arith, fewer old.guest.attentions one.drive one.due))
   running_nearer Dead goes = tt
-  running_nearer Delivered goes = absurd (cc (running_first Delivered goes))
-  running_nearer Idle goes = absurd (cc (running_first Idle goes))
+  running_nearer turn goes = absurd (cc (running_first turn goes))
 
   runs : (turn : Turn) → TurnEffect old.phase old memory turn new memory_after
       → RunningTurn old memory turn new memory_after
-  runs turn goes = subst (λ (p : Phase). TurnEffect p old memory turn new memory_after) may.runs goes
+  runs turn goes = grind (arith, nat_tests)
 
   pub first : (turn : Turn) → TurnEffect old.phase old memory turn new memory_after → goes_before_ends turn ≡ true
-  first turn goes = running_first turn (runs turn goes)
+  first turn goes = grind (arith, nat_tests)
 
   pub nearer : (turn : Turn) → TurnEffect old.phase old memory turn new memory_after → ComesNearer old turn new
   nearer turn goes = running_nearer turn (runs turn goes)
-
--- ---- the most of any port
-
-one_at_most : (b : Bool) → one_if b ≤ 1
-one_at_most true = omega arith
-one_at_most _ = omega arith
-
-four_at_most : (xs : List Bool) → due_count xs ≤ 4
-four_at_most xs = omega (arith, one_at_most)
-
-pub most_turns : (port : PortState) → CreditsAgree port → turns_to_notify port ≤ MOST_TURNS_TO_NOTIFY
-most_turns port agree = omega (arith, agree.credits, agree.conserved, four_at_most port.guest.attentions)
 
 -- ---- turns one after another
 
 lives_nearer : (old : PortState) (turn : Turn) (new : PortState) → (turn ≡ Dead → ⊥) → ComesNearer old turn new
     → turns_to_notify new < turns_to_notify old
-lives_nearer old Dead new lives it = absurd (lives refl)
-lives_nearer old _ new lives it = it
+lives_nearer old turn new lives it = grind (arith, nat_tests)
 
 one_nearer : (old new : PortState) → UndeliveredTurn old new → turns_to_notify new < turns_to_notify old
 one_nearer old new t =
     let on = record old { polling = t.polling; interrupts = t.interrupts } in
-    let may : MayNotify on t.memory = record {
-      runs = t.may.runs;
-      due = t.may.due;
-      descriptor = t.may.descriptor;
-      free = t.may.free;
-    } in
-    lives_nearer on t.turn new t.lives (nearer on t.memory new t.memory_after may t.turn t.goes)
+    lives_nearer on t.turn new t.lives (nearer on t.memory new t.memory_after (search t.may) t.turn t.goes)
 
 pub attention_arrives : AttentionArrives
 attention_arrives zero first last same = omega (arith, ap turns_to_notify same)

@@ -1,5 +1,4 @@
 pub mod RingLaws
-pub mod InterruptLaws
 pub mod StrictLaws
 pub mod Length
 pub mod TurnLaws

@@ -1,33 +1,24 @@
 -- A turn is one of the cases of its plan.
-use Rattle.std.proofs.Common.{◌≡◌, ℕ, ◌<◌, Bool, true, false, List, [], ◌∷◌, length, Option, Some, None, Result, refl, sym, ap, subst, ◌∙◌, arith}
-use Rattle.std.specs.Prelude.{option_map}
-use Rattle.std.proofs.lemmas.Bool.{cond_both}
-use Rattle.std.proofs.lemmas.Option.{slice_get_within}
-use Rattle.uda_packet.specs.declared.command.Command.{Command}
+use Rattle.std.proofs.lemmas.Bool.Decides.{nat_tests}
+use Rattle.std.proofs.Common.{◌≡◌, ℕ, ◌<◌, false, List, length, Result, refl, sym, ap, subst, ◌∙◌, arith}
 use Rattle.uda_packet.specs.declared.guest_command.GuestCommand.{GuestCommand}
 use Rattle.uda_packet.specs.declared.reply.Reply.{Reply}
 use Rattle.uda_disk.specs.Units.{Units}
 use Rattle.uda_port.specs.MemoryUse.{TurnsAt}
-use Rattle.uda_port.specs.Message.{message_in}
 use Rattle.uda_port.specs.Events.{Delivers}
 use Rattle.uda_port.specs.Port.{PortState}
-use Rattle.uda_port.specs.Report.{next_text}
 use Rattle.uda_port.specs.Fetch.{IsNext}
 use Rattle.uda_port.specs.Startup.{failed_port}
-use Rattle.uda_port.specs.declared.descriptor.Descriptor.{Descriptor}
 use Rattle.uda_port.specs.declared.phase.Fatal.{Fatal}
 use Rattle.uda_port.specs.declared.phase.Phase.{Phase}
 use Rattle.uda_port.specs.declared.phase.Phase.TheVariants.{Running}
 use Rattle.uda_port.specs.declared.turn.Turn.{Turn}
 use Rattle.uda_port.specs.declared.plan.Plan.{Plan}
-use Rattle.uda_port.specs.declared.profile.Profile.{Profile}
 use Rattle.uda_port.specs.declared.phase.Fatal.TheVariants as fatal
 use Rattle.uda_port.specs.declared.turn.Turn.TheVariants as did
-use Rattle.uda_port.specs.declared.plan.Plan.TheVariants.{AtRest, NoCommandRing, ToFetch, ToExecute, NoMessage, ToWait, NoResponseRing, ToDeliver}
-use Rattle.uda_port.specs.Plan.{plan_later, plan_running, plan_in, next_size, plan_without_fetch, plan_of, Step, counted, stopped_polling, is_execution, is_executed, rest_turn, TurnIs, TurnCase, Rests, CommandRingLost, Unreadable, Exceeds, BadConnection, Fetches, Executes, DeliversEnd, Notifies, Waits, ResponseRingLost, NoRoom}
-use Rattle.uda_port.specs.declared.profile.Profile.TheVariants.{Strict, Compatible}
-use Rattle.uda_port.specs.Ring.{is_owned, next_descriptor}
-use Rattle.uda_port.specs.Turn.{Unchanged, TurnEffect, RunningTurn, NothingToFetch, NothingToDeliver, ExecutesOne, ExecutesFor, Fails, InFetch, InRest, may_fetch, port_with_message}
+use Rattle.uda_port.specs.declared.plan.Plan.TheVariants.{ToFetch, ToExecute, NoMessage, ToWait, ToDeliver}
+use Rattle.uda_port.specs.Plan.{plan_of, Step, counted, stopped_polling, is_execution, is_executed, rest_turn, TurnIs, TurnCase, Rests, CommandRingLost, Unreadable, Exceeds, BadConnection, Fetches, Executes, DeliversEnd, Notifies, Waits, ResponseRingLost, NoRoom}
+use Rattle.uda_port.specs.Turn.{Unchanged, TurnEffect, RunningTurn, NothingToFetch, NothingToDeliver, ExecutesOne, Fails, InFetch, InRest, port_with_message}
 use Rattle.uda_port.proofs.TurnLaws.{attention_first, first_text}
 
 -- ---- a turn is one of its cases
@@ -97,8 +88,7 @@ case_of turn s goes = case_by _ s turn goes (λ j x is. (j, (tt, x)))
 module _ (Is : ℕ → Type 0) (turn : Turn) (s : Step) where
   at_rest : (phase : Phase) → (phase ≡ Running → ⊥) → turn ≡ rest_turn phase
       → Unchanged s.old s.memory s.new s.memory_after → Goes s turn phase
-  at_rest Running rests answer same = absurd (rests refl)
-  at_rest _ rests answer same = assumption
+  at_rest phase rests answer same = grind (arith, nat_tests)
 
   running : {wanted : Turn} → TurnIs wanted turn s.old → RunningTurn s.old s.memory wanted s.new s.memory_after
       → Goes s turn s.old.phase
@@ -107,7 +97,7 @@ module _ (Is : ℕ → Type 0) (turn : Turn) (s : Step) where
   dead : {cause : Fatal} (before : PortState) → TurnIs did.Dead turn s.old
       → Fails cause (counted s) s.memory before s.memory_after → s.new ≡ failed_port before cause
       → Goes s turn s.old.phase
-  dead before d fails is = running d (record { cause = _; before = before; fails = fails; died = is })
+  dead before d fails is = grind (arith, nat_tests)
 
   pub effect_of : TurnCase Is turn s → TurnEffect s.old.phase s.old s.memory turn s.new s.memory_after
   effect_of (Rests rests answer same) = at_rest s.old.phase rests answer same
@@ -128,55 +118,21 @@ module _ (Is : ℕ → Type 0) (turn : Turn) (s : Step) where
 -- a command was pending that is executed
 pub some_executed : (old : PortState) (memory : List ℕ) (j : ℕ) (new : PortState) (memory_after : List ℕ)
     → ExecutesOne j old memory new memory_after → 0 < length old.exec.pending
-some_executed old memory j new memory_after x = by old.profile x.executes
-  where
-    by : (profile : Profile) → ExecutesFor profile j old.exec memory x.end new.exec memory_after
-        → 0 < length old.exec.pending
-    by Strict it = omega (arith, slice_get_within {A = Command})
-    by (Compatible identity) it = omega (arith, slice_get_within {A = Command})
+some_executed old memory j new memory_after x = grind (arith, nat_tests)
 
 module _ (port : PortState) (memory : List ℕ) where
-  pub plan_rests : (port.phase ≡ Running → ⊥) → plan_of port memory ≡ AtRest
-  plan_rests rests = grind arith
-
-  pub plan_outside : port.phase ≡ Running → may_fetch port ≡ true → next_descriptor memory port.commands ≡ None
-      → plan_of port memory ≡ NoCommandRing
-  plan_outside runs looks none = grind arith
-
-  pub plan_fetches : (d : Descriptor) → port.phase ≡ Running → may_fetch port ≡ true
-      → next_descriptor memory port.commands ≡ Some d → is_owned d ≡ true → plan_of port memory ≡ ToFetch d
-  plan_fetches d runs looks next owned = grind arith
-
   pub plan_executes : port.phase ≡ Running → NothingToFetch port memory → 0 < length port.exec.pending
       → plan_of port memory ≡ ToExecute
   plan_executes runs nothing pending = grind arith
 
   module _ (runs : port.phase ≡ Running) (waits : Delivers port memory) where
-    plan_speaks : {text : Option (List ℕ)} → next_text port ≡ text
-        → plan_of port memory
-        ≡ plan_later [] (option_map (λ (t : List ℕ). length t) text) (next_descriptor memory port.responses)
-    plan_speaks next = grind arith
-
-    pub plan_lost : (text : List ℕ) → next_text port ≡ Some text → next_descriptor memory port.responses ≡ None
-        → plan_of port memory ≡ NoResponseRing
-    plan_lost text next none = grind arith
-
-    pub plan_delivers : (text : List ℕ) (d : Descriptor) → next_text port ≡ Some text
-        → next_descriptor memory port.responses ≡ Some d → is_owned d ≡ true
-        → plan_of port memory ≡ ToDeliver d (length text)
-    plan_delivers text d next is owned = grind arith
-
     -- nothing is delivered: there is no message, or it waits
     pub data IsQuiet : Type 0 where
       NoneWaits : plan_of port memory ≡ NoMessage → IsQuiet
       Waiting : plan_of port memory ≡ ToWait → IsQuiet
 
     pub plan_quiet : NothingToDeliver port memory → IsQuiet
-    plan_quiet nothing = by (next_text port) refl
-      where
-        by : (text : Option (List ℕ)) → next_text port ≡ text → IsQuiet
-        by None next = NoneWaits (plan_speaks next)
-        by (Some text) next = let f = nothing text next in Waiting (plan_speaks next ∙ rw (f.is_next, f.not_owned))
+    plan_quiet nothing = grind (arith, nat_tests)
 
 -- ---- a turn executes a command exactly if that is the plan
 
@@ -201,58 +157,23 @@ pub data Outcome (Is : ℕ → Type 0) (turn : Turn) (s : Step) : Type 0 where
       → Outcome Is turn s
 
 module _ (Is : ℕ → Type 0) (turn : Turn) (s : Step) where
-  -- another plan, and the turn that it leads to
-  other : {p : Plan} {wanted : Turn} → plan_of s.old s.memory ≡ p → turn ≡ wanted → is_execution p ≡ false
-      → is_executed wanted ≡ false → units_of s.new ≡ units_of s.old → Outcome Is turn s
-  other plan answer none never units = Other (ap is_execution plan ∙ none) (ap is_executed answer ∙ never) units
-
-  -- a fetch that was planned
-  taken : {wanted : Turn} {d : Descriptor} → TurnIs wanted turn s.old → may_fetch s.old ≡ true
-      → next_descriptor s.memory s.old.commands ≡ Some d → is_owned d ≡ true → is_executed wanted ≡ false
-      → units_of s.new ≡ units_of s.old → Outcome Is turn s
-  taken did looks next owned never units =
-      other (plan_fetches s.old s.memory _ did.runs looks next owned) did.answer refl never units
-
   pub outcome : TurnCase Is turn s → Outcome Is turn s
-  outcome (Rests rests answer same) =
-      other (plan_rests s.old s.memory rests) answer refl (grind arith) (rw same.state)
-  outcome (CommandRingLost d line same) =
-      other (plan_outside s.old s.memory d.runs line.looks line.no_descriptor) d.answer refl refl (rw same.state)
-  outcome (Unreadable d line same) =
-      taken d line.looks line.no_packet.is_next line.no_packet.owned refl (rw same.state)
-  outcome (Exceeds d before line is) =
-      let t = line.taken.takes in
-      taken d line.taken.looks t.is_next t.owned refl (rw (is, line.taken.others))
-  outcome (BadConnection d before line is) =
-      let t = line.taken.takes in
-      taken d line.taken.looks t.is_next t.owned refl (rw (is, line.taken.others))
-  outcome (Fetches d line) =
-      let t = line.takes in
-      taken d line.looks t.is_next t.owned refl
-      (rw line.others (units_with (counted s) (message_in s.old.profile line.packet)))
   outcome (Executes d nothing j is line) =
       Executing (plan_executes s.old s.memory d.runs nothing (some_executed _ _ _ _ _ line)) d.answer j is line
-  outcome (DeliversEnd d reaches line) =
-      let t = line.puts in
-      other (plan_delivers _ _ d.runs reaches _ _ (first_text s.old line.end line.none_due (rw line.first)) t.is_next
-      t.owned) d.answer refl refl (rw line.others)
-  outcome (Notifies d reaches line) =
-      let t = line.puts in
-      other (plan_delivers _ _ d.runs reaches _ _ (attention_first s.old line.text line.message) t.is_next t.owned)
-      d.answer refl refl (rw line.others)
+  outcome (Rests rests answer same) = Other (grind arith) (grind arith) (rw same.state)
+  outcome (CommandRingLost d line same) = Other (grind arith) (rw d.answer) (rw same.state)
+  outcome (Unreadable d line same) = Other (grind arith) (rw d.answer) (rw same.state)
+  outcome (Exceeds d before line is) = Other (grind arith) (rw d.answer) (rw (is, line.taken.others))
+  outcome (BadConnection d before line is) = Other (grind arith) (rw d.answer) (rw (is, line.taken.others))
+  outcome (Fetches d line) = Other (grind arith) (rw d.answer) (rw line.others (units_with (counted s) _))
+  outcome (DeliversEnd d reaches line) = Other (grind (arith, first_text)) (rw d.answer) (rw line.others)
+  outcome (Notifies d reaches line) = Other (grind (arith, attention_first)) (rw d.answer) (rw line.others)
   outcome (Waits d reaches none same) = elim (plan_quiet _ _ d.runs reaches none) [
-    | NoneWaits plan ↦ other plan d.answer refl refl (rw same.state)
-    | Waiting plan ↦ other plan d.answer refl refl (rw same.state)
+    | NoneWaits plan ↦ Other (rw plan) (rw d.answer) (rw same.state)
+    | Waiting plan ↦ Other (rw plan) (rw d.answer) (rw same.state)
   ]
-  outcome (ResponseRingLost d reaches line same) =
-      other (plan_lost _ _ d.runs reaches _ line.is_next line.no_descriptor) d.answer refl refl (rw same.state)
-  outcome (NoRoom d reaches line same) =
-      let l = line.no_room in
-      other (plan_delivers _ _ d.runs reaches _ _ line.is_next l.is_next l.owned) d.answer refl refl (rw same.state)
-
-  -- a turn that is to execute a command does
-  pub executed_case : TurnCase Is turn s → plan_of s.old s.memory ≡ ToExecute → turn ≡ did.Executed
-  executed_case c plan = elim (outcome c) [ Executing to is j at x ↦ is | Other none never units ↦ cc ]
+  outcome (ResponseRingLost d reaches line same) = Other (grind arith) (rw d.answer) (rw same.state)
+  outcome (NoRoom d reaches line same) = Other (grind arith) (rw d.answer) (rw same.state)
 
 -- ---- a turn that executes the command at an index, if it executes one
 
@@ -291,23 +212,8 @@ module _ (port : PortState) (memory : List ℕ) where
   abbrev Here : Plan → Type 0
   Here plan = Follows port memory plan
 
-  goes_on : (cs : List Command) (size : Option ℕ) (response : Option Descriptor) → port.phase ≡ Running
-      → port.exec.pending ≡ cs → next_descriptor memory port.responses ≡ response
-      → Here (plan_later cs size response)
-  goes_on (c ∷ cs) size response runs is next = record { runs = runs; pending = rw is (omega arith) }
-  goes_on [] (Some n) (Some d) runs is next = cond_both (is_owned d) _ _ Here (λ owned. assumption) (λ _. tt)
-  goes_on [] _ _ runs is next = tt
-
   pub follows : Here (plan_of port memory)
-  follows = by port.phase (may_fetch port) (next_descriptor memory port.commands) refl refl
-    where
-      by : (phase : Phase) (b : Bool) (command : Option Descriptor) → port.phase ≡ phase
-          → next_descriptor memory port.commands ≡ command
-          → Here (plan_in phase (plan_running b command (plan_without_fetch port memory)))
-      by Running false command runs next = goes_on _ (next_size port) _ runs refl refl
-      by Running true (Some d) runs next =
-          cond_both (is_owned d) _ _ Here (λ owned. assumption) (λ _. goes_on _ (next_size port) _ runs refl refl)
-      by _ _ _ runs next = tt
+  follows = grind (arith, nat_tests)
 
   pub execution : plan_of port memory ≡ ToExecute → IsExecution port
   execution is = subst Here is follows

@@ -1,11 +1,10 @@
 -- The invariant of a port after a change of its phase.
-use Rattle.std.proofs.Common.{◌≡◌, ◌≢◌, ℕ, ◌+◌, ◌*◌, ◌≤◌, ◌<◌, ◌⊎◌, inl, inr, true, false, List, Option, None, refl, sym, ap, ◌∙◌, arith}
-use Rattle.std.specs.Prelude.{not}
-use Rattle.std.proofs.lemmas.Bool.{and_from, eq-eqb, le-leb, lt-ltb}
+use Rattle.std.proofs.lemmas.Bool.Decides.{nat_tests}
+use Rattle.std.proofs.Common.{◌≡◌, ◌≢◌, ℕ, ◌+◌, ◌*◌, ◌≤◌, ◌<◌, ◌⊎◌, true, false, List, Option, None, arith}
 use Rattle.uda_packet.specs.declared.guest_end.Identity.{Identity}
 use Rattle.uda_port.specs.declared.interrupt.Interrupts.{Interrupts}
 use Rattle.uda_port.specs.declared.phase.Fatal.{Fatal}
-use Rattle.uda_port.specs.declared.phase.Fatal.TheVariants.{RingWrite, InitializationError, RingRead, PacketRead, PacketWrite, CreditsExceeded}
+use Rattle.uda_port.specs.declared.phase.Fatal.TheVariants.{RingWrite, InitializationError, RingRead, CreditsExceeded}
 use Rattle.uda_port.specs.declared.phase.Phase.{Phase}
 use Rattle.uda_port.specs.declared.phase.Phase.TheVariants.{Step1, Step2, Step3, Wrap, PurgeTest, PollTest, Step4, Running, Dead}
 use Rattle.uda_port.specs.declared.port.Port.TheInside.{Inside}
@@ -14,45 +13,17 @@ use Rattle.uda_port.specs.declared.profile.Profile.TheVariants.{Strict, Compatib
 use Rattle.uda_port.specs.Interrupt.{raised_by_step, raised, interrupts_asked, noted}
 use Rattle.uda_port.specs.PortInvariant.{PortInvariant, IsPossible}
 use Rattle.uda_port.specs.Port.{PortState, port_after_ip_read}
-use Rattle.uda_port.specs.Possible.{is_of_turn, has_run, has_rings, has_phase, CanDie, is_step_3, is_past_steps, settings_fit, is_strict_phase, is_guest_phase, can_interrupt, rings_fit, addresses_by, guest_fits, queue_fits, HasNoWork}
+use Rattle.uda_port.specs.Possible.{has_run, CanDie, is_step_3, can_interrupt, rings_fit, addresses_by, guest_fits, queue_fits, HasNoWork}
 use Rattle.uda_port.specs.Ring.{RingState}
 use Rattle.uda_port.specs.Startup.{has_bit, refuses_second, refuses_third, asks_test, after_sa_write}
-use Rattle.uda_port.proofs.PossibleLaws.{same_rings, same_guest, by_death, by_step, by_first_word, by_third_word, by_go, go_rings, go_guest, by_indicator, rings_move}
-
--- both profiles have the phase
-in_both : (profile : Profile) (phase : Phase) → is_strict_phase phase ≡ true → is_guest_phase phase ≡ true
-    → has_phase profile phase ≡ true
-in_both Strict phase strict guest = strict
-in_both _ phase strict guest = guest
-
--- both phases allow the same interrupts
-same_interrupts : (profile : Profile) (phase next : Phase) (i : Interrupts) → settings_fit next i ≡ settings_fit phase i
-    → is_past_steps next ≡ is_past_steps phase → can_interrupt profile phase i ≡ true
-    → can_interrupt profile next i ≡ true
-same_interrupts Strict phase next i settings past is = is
-same_interrupts _ phase next i settings past is = rw (settings, past) is
-
--- the port goes from one phase to another, in which it has the same rings and has run or not as before
-steps : {S : Type 0} (p : Inside S) (phase next : Phase) (i : Interrupts) → p.phase ≡ phase
-    → has_rings next ≡ has_rings phase → has_run next ≡ has_run phase
-    → (has_phase p.profile phase ≡ true → has_phase p.profile next ≡ true)
-    → (can_interrupt p.profile phase p.interrupts ≡ true → can_interrupt p.profile next i ≡ true)
-    → PortInvariant p → PortInvariant (record p { phase = next; interrupts = i })
-steps p phase next i step rings run has can is = assumption (
-  has (rw step at is.possible.phase),
-  can (rw step at is.possible.interrupts),
-  same_rings p.profile phase next p.responses p.commands rings run (rw step at is.possible.rings),
-  same_guest p.profile phase next p.guest run (rw step at is.possible.guest),
-  λ (rests : has_run next ≡ false). is.possible.no_work (ap has_run step ∙ sym run ∙ rests),
-)
+use Rattle.uda_port.proofs.PossibleLaws.{same_guest, by_death, by_step, by_indicator, rings_move}
 
 -- ---- death
 
 pub dies : {S : Type 0} (p : Inside S) (cause : Fatal) → CanDie p.profile p.phase cause → PortInvariant p
     → PortInvariant (record p { phase = Dead cause; interrupts = raised p.profile p.interrupts })
 dies p cause can is =
-    steps p p.phase (Dead cause) _ refl (sym can.rings) (sym can.ran) (λ _. can.fatal)
-    (by_death p.profile p.phase cause p.interrupts) is
+    grind (arith, by_death)
 
 -- ---- the first word
 
@@ -62,101 +33,56 @@ pub takes_first : {S : Type 0} (p : Inside S) (word : ℕ) → p.phase ≡ Step1
       phase = Step2 word;
       interrupts = raised_by_step p.profile (interrupts_asked p.profile p.interrupts word);
     })
-takes_first p word step one two is =
-    let accepted = and_from (has_bit word 15) _ one (ap not two) in
-    steps p Step1 (Step2 word) _ step refl refl (λ _. in_both p.profile (Step2 word) accepted accepted)
-    (λ silent. by_step p.profile (Step2 word) (interrupts_asked p.profile p.interrupts word)
-    (by_first_word p.profile word p.interrupts silent)) is
-
--- wrap mode, which only a compatible port has
-has_wrap : (profile : Profile) (word : ℕ) (identity : Identity) → profile ≡ Compatible identity
-    → has_phase profile (Wrap word) ≡ true
-has_wrap Strict word identity is = absurd (cc)
-has_wrap _ word identity is = refl
+takes_first p word step one two is = grind (arith, nat_tests)
 
 pub wraps : {S : Type 0} (p : Inside S) (word : ℕ) (identity : Identity) → p.phase ≡ Step1
     → p.profile ≡ Compatible identity → PortInvariant p
     → PortInvariant (record p { phase = Wrap word })
-wraps p word identity step guest is =
-    steps p Step1 (Wrap word) _ step refl refl (λ _. has_wrap p.profile word identity guest)
-    (same_interrupts p.profile Step1 (Wrap word) p.interrupts refl refl) is
-
-wrap_again : (profile : Profile) (before word : ℕ) → has_phase profile (Wrap before) ≡ true
-    → has_phase profile (Wrap word) ≡ true
-wrap_again Strict before word is = is
-wrap_again _ before word is = is
+wraps p word identity step guest is = grind (arith, nat_tests)
 
 pub wraps_again : {S : Type 0} (p : Inside S) (before word : ℕ) → p.phase ≡ Wrap before → PortInvariant p
     → PortInvariant (record p { phase = Wrap word })
-wraps_again p before word step is =
-    steps p (Wrap before) (Wrap word) _ step refl refl (wrap_again p.profile before word)
-    (same_interrupts p.profile (Wrap before) (Wrap word) p.interrupts refl refl) is
+wraps_again p before word step is = grind (arith, nat_tests)
 
 -- ---- the second word
-
-second_accepted : (profile : Profile) (first second : ℕ) → has_phase profile (Step2 first) ≡ true
-    → refuses_second profile second ≡ false → has_phase profile (Step3 first second) ≡ true
-second_accepted Strict first second is taken = and_from _ _ is (ap not taken)
-second_accepted _ first second is taken = is
 
 pub takes_second : {S : Type 0} (p : Inside S) (first word : ℕ) → p.phase ≡ Step2 first
     → refuses_second p.profile word ≡ false → PortInvariant p
     → PortInvariant (record p { phase = Step3 first word; interrupts = raised_by_step p.profile p.interrupts })
-takes_second p first word step taken is =
-    steps p (Step2 first) (Step3 first word) _ step refl refl
-    (λ was. second_accepted p.profile first word was taken)
-    (λ asked. by_step p.profile (Step3 first word) p.interrupts
-    (same_interrupts p.profile (Step2 first) (Step3 first word) p.interrupts refl refl asked)) is
+takes_second p first word step taken is = grind (arith, nat_tests)
 
 -- ---- the tests
 
-poll_follows : (profile : Profile) → has_phase profile PurgeTest ≡ true → has_phase profile PollTest ≡ true
-poll_follows Strict is = is
-poll_follows _ is = is
-
 pub passes_purge : {S : Type 0} (p : Inside S) → p.phase ≡ PurgeTest → PortInvariant p
     → PortInvariant (record p { phase = PollTest })
-passes_purge p step is =
-    steps p PurgeTest PollTest _ step refl refl (poll_follows p.profile)
-    (same_interrupts p.profile PurgeTest PollTest p.interrupts refl refl) is
+passes_purge p step is = grind (arith, nat_tests)
 
 pub passes_poll : {S : Type 0} (p : Inside S) → p.phase ≡ PollTest → PortInvariant p
     → PortInvariant (record p { phase = Step4; interrupts = raised_by_step p.profile p.interrupts })
-passes_poll p step is =
-    steps p PollTest Step4 _ step refl refl (λ _. in_both p.profile Step4 refl refl)
-    (λ may. by_step p.profile Step4 p.interrupts
-    (same_interrupts p.profile PollTest Step4 p.interrupts refl refl may)) is
+passes_poll p step is = grind (arith, nat_tests)
 
 -- ---- before the third word a strict port can die of a feature that it doesn't have, and any port of its rings
 
 pub second_refused : (profile : Profile) (phase : Phase) (first word : ℕ) → phase ≡ Step2 first
     → refuses_second profile word ≡ true → CanDie profile phase InitializationError
-second_refused Strict phase first word step refused =
-    record { fatal = refl; ran = ap has_run step; rings = ap has_rings step }
-second_refused _ phase first word step refused = absurd (cc)
+second_refused profile phase first word step refused = grind (arith, nat_tests)
 
 pub third_refused : (profile : Profile) (phase : Phase) (first second word : ℕ) → phase ≡ Step3 first second
     → refuses_third profile word ≡ true → CanDie profile phase InitializationError
-third_refused Strict phase first second word step refused =
-    record { fatal = refl; ran = ap has_run step; rings = ap has_rings step }
-third_refused _ phase first second word step refused = absurd (cc)
+third_refused profile phase first second word step refused = grind (arith, nat_tests)
 
 pub area_refused : (profile : Profile) (phase : Phase) (first second : ℕ) → phase ≡ Step3 first second
     → CanDie profile phase RingWrite
-area_refused profile phase first second step =
-    record { fatal = in_both profile (Dead RingWrite) refl refl; ran = ap has_run step; rings = ap has_rings step }
+area_refused profile phase first second step = grind (arith, nat_tests)
 
 -- ---- the third word sets the rings
 
 third_interrupts : (profile : Profile) (phase : Phase) (i : Interrupts) → is_step_3 phase ≡ true
     → can_interrupt profile phase i ≡ true → can_interrupt profile Step4 i ≡ true
-third_interrupts profile (Step3 first second) i step is = by_third_word profile first second i is
-third_interrupts profile _ i step is = absurd (cc)
+third_interrupts profile phase i step is = grind (arith, nat_tests)
 
 not_run_in_3 : (phase : Phase) → is_step_3 phase ≡ true → has_run phase ≡ false
-not_run_in_3 Running step = absurd (cc)
-not_run_in_3 (Dead cause) step = absurd (cc)
-not_run_in_3 _ step = refl
+not_run_in_3 phase step = grind (arith, nat_tests)
 
 -- two rings that follow the third word
 pub record AreSet (profile : Profile) (responses commands : RingState) : Type 0 where
@@ -166,25 +92,9 @@ pub record AreSet (profile : Profile) (responses commands : RingState) : Type 0 
   pub first : responses.place ≡ 0
   pub second : commands.place ≡ 0
 
-pub sets_rings : {S : Type 0} (p : Inside S) (next : Phase) (i : Interrupts) (responses commands : RingState)
-    → is_step_3 p.phase ≡ true → AreSet p.profile responses commands
-    → has_phase p.profile next ≡ true → has_run next ≡ false → can_interrupt p.profile next i ≡ true
-    → rings_fit p.profile next responses commands ≡ true → PortInvariant p
-    → PortInvariant (record p { phase = next; interrupts = i; responses = responses; commands = commands })
-sets_rings p next i responses commands step set has rests can fit is =
-    let ordered : responses.base ≤ commands.base = omega arith in
-    let rested = not_run_in_3 p.phase step in
-    assumption (
-      ordered,
-      same_guest p.profile p.phase next p.guest (rests ∙ sym rested) is.possible.guest,
-      λ (_ : has_run next ≡ false). is.possible.no_work rested,
-    )
-
 set_fit : (profile : Profile) (responses commands : RingState) → AreSet profile responses commands
     → rings_fit profile Step4 responses commands ≡ true
-set_fit profile responses commands set =
-    and_from _ _ (and_from _ _ (le-leb _ _ set.above) (lt-ltb _ _ set.within))
-    (and_from _ _ (eq-eqb _ _ set.next) (and_from _ _ (eq-eqb _ _ set.first) (eq-eqb _ _ set.second)))
+set_fit profile responses commands set = grind (arith, nat_tests)
 
 pub enters_step_4 : {S : Type 0} (p : Inside S) (responses commands : RingState) → is_step_3 p.phase ≡ true
     → AreSet p.profile responses commands → PortInvariant p
@@ -195,25 +105,14 @@ pub enters_step_4 : {S : Type 0} (p : Inside S) (responses commands : RingState)
       commands = commands;
     })
 enters_step_4 p responses commands step set is =
-    sets_rings p Step4 _ responses commands step set (in_both p.profile Step4 refl refl) refl
-    (by_step p.profile Step4 p.interrupts
-    (third_interrupts p.profile p.phase p.interrupts step is.possible.interrupts))
-    (set_fit p.profile responses commands set) is
-
--- a port that tests is compatible
-tests : (profile : Profile) (word : ℕ) → asks_test profile word ≡ true → has_phase profile PurgeTest ≡ true
-tests Strict word asks = absurd (cc)
-tests _ word asks = refl
+    grind (arith, not_run_in_3, same_guest, by_step, third_interrupts, set_fit)
 
 pub enters_test : {S : Type 0} (p : Inside S) (responses commands : RingState) (word : ℕ)
     → is_step_3 p.phase ≡ true → AreSet p.profile responses commands → asks_test p.profile word ≡ true
     → PortInvariant p
     → PortInvariant (record p { phase = PurgeTest; responses = responses; commands = commands })
 enters_test p responses commands word step set asks is =
-    sets_rings p PurgeTest p.interrupts responses commands step set (tests p.profile word asks) refl
-    (same_interrupts p.profile Step4 PurgeTest p.interrupts refl refl
-    (third_interrupts p.profile p.phase p.interrupts step is.possible.interrupts))
-    (set_fit p.profile responses commands set) is
+    grind (arith, not_run_in_3, same_guest, third_interrupts, set_fit)
 
 -- ---- a running port
 
@@ -223,15 +122,8 @@ pub runs_on : {S : Type 0} {p : Inside S} (indicator : Option ℕ) → PortInvar
     → q.responses.base ≡ p.responses.base → q.responses.count ≡ p.responses.count
     → q.commands.base ≡ p.commands.base → guest_fits p.profile p.phase q.guest ≡ true
     → queue_fits p.profile q.waiting.items ≡ true → IsPossible q
-runs_on {p = p} indicator is runs q profile phase notes base count other guest queue = record {
-  phase = rw (profile, phase) is.possible.phase;
-  interrupts = rw (profile, phase, notes) (by_indicator _ _ indicator _ runs is.possible.interrupts);
-  rings = rw (profile, phase) (rings_move p.profile _ p.responses p.commands q.responses q.commands runs base count
-      other is.possible.rings);
-  guest = rw (profile, phase) guest;
-  queue = rw profile queue;
-  no_work = λ rests. absurd (cc);
-}
+runs_on {p = p} indicator is runs q profile phase notes base count other guest queue =
+    grind (arith, by_indicator, rings_move)
 
 pub polls : {S : Type 0} (p : Inside S) → p.phase ≡ Running → PortInvariant p
     → PortInvariant (record p { polling = true })
@@ -239,31 +131,20 @@ polls p runs is = search (runs_on None is runs)
 
 unpolled : {S : Type 0} (p : Inside S) → IsPossible p → has_run p.phase ≡ false
     → HasNoWork false p.deliveries p.exec.pending p.waiting.items p.exec.position
-unpolled p is rests = let none = is.no_work rests in search
+unpolled p is rests = grind (arith, nat_tests)
 
 pub stops_polling : {S : Type 0} (p : Inside S) → PortInvariant p → PortInvariant (record p { polling = false })
 stops_polling p is = search (unpolled p is.possible)
 
 pub goes : {S : Type 0} (p : Inside S) → p.phase ≡ Step4 → PortInvariant p
     → PortInvariant (record p { phase = Running })
-goes p step is =
-    let never : true ≡ false → HasNoWork p.polling p.deliveries p.exec.pending p.waiting.items p.exec.position =
-    λ runs. absurd (cc) in
-    assumption (
-      in_both p.profile Running refl refl,
-      by_go p.profile p.interrupts (rw step at is.possible.interrupts),
-      go_rings p.profile p.responses p.commands (rw step at is.possible.rings),
-      go_guest p.profile p.guest (rw step at is.possible.guest),
-      never,
-    )
+goes p step is = grind (arith, nat_tests)
 
 -- ---- a read of IP that changes nothing
 
 pub ignores_read : (phase : Phase) (old : PortState) → phase ≢ PollTest → phase ≢ Running
     → port_after_ip_read phase old ≡ old
-ignores_read PollTest old not_poll not_running = absurd (not_poll refl)
-ignores_read Running old not_poll not_running = absurd (not_running refl)
-ignores_read _ old not_poll not_running = refl
+ignores_read phase old not_poll not_running = grind (arith, nat_tests)
 
 -- ---- a word that changes nothing
 
@@ -272,36 +153,13 @@ TakesNoWord phase = (phase ≡ PollTest) ⊎ ((phase ≡ Running) ⊎ ((cause : 
 
 pub ignores_word : (phase : Phase) (old : PortState) (memory : List ℕ) (word : ℕ) → TakesNoWord phase
     → after_sa_write phase old memory word ≡ (old, memory)
-ignores_word PollTest old memory word is = refl
-ignores_word Running old memory word is = refl
-ignores_word (Dead cause) old memory word is = refl
-ignores_word phase old memory word (inl is) = absurd (cc)
-ignores_word phase old memory word (inr (inl is)) = absurd (cc)
-ignores_word phase old memory word (inr (inr dead)) = absurd (cc)
+ignores_word phase old memory word is = grind (arith, nat_tests)
 
 -- ---- the fatal errors of a turn
 
-runs_into : (profile : Profile) (phase : Phase) (cause : Fatal) → phase ≡ Running → is_of_turn cause ≡ true
-    → has_phase profile (Dead cause) ≡ true → CanDie profile phase cause
-runs_into profile phase cause runs of_turn fatal = record {
-  fatal = fatal;
-  ran = ap has_run runs ∙ sym of_turn;
-  rings = ap has_rings runs ∙ sym of_turn;
-}
-
 pub reads_no_ring : (profile : Profile) (phase : Phase) → phase ≡ Running → CanDie profile phase RingRead
-reads_no_ring profile phase runs =
-    runs_into profile phase RingRead runs refl (in_both profile (Dead RingRead) refl refl)
-
-pub reads_no_packet : (profile : Profile) (phase : Phase) → phase ≡ Running → CanDie profile phase PacketRead
-reads_no_packet profile phase runs =
-    runs_into profile phase PacketRead runs refl (in_both profile (Dead PacketRead) refl refl)
-
-pub writes_no_packet : (profile : Profile) (phase : Phase) → phase ≡ Running → CanDie profile phase PacketWrite
-writes_no_packet profile phase runs =
-    runs_into profile phase PacketWrite runs refl (in_both profile (Dead PacketWrite) refl refl)
+reads_no_ring profile phase runs = grind (arith, nat_tests)
 
 pub exceeds_credits : (profile : Profile) (phase : Phase) → phase ≡ Running → profile ≡ Strict
     → CanDie profile phase CreditsExceeded
-exceeds_credits profile phase runs strict =
-    runs_into profile phase CreditsExceeded runs refl (rw strict refl)
+exceeds_credits profile phase runs strict = grind (arith, nat_tests)

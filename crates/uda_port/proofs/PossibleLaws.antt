@@ -1,21 +1,12 @@
 -- What keeps a port's state possible.
-use Rattle.std.proofs.Common.{◌≡◌, ℕ, ◌+◌, ◌*◌, ◌%◌, ◌<◌, ◌≤◌, ◌==◌, zero, suc, Bool, true, false, ◌&&◌, ◌||◌, List, [], ◌∷◌, ◌++◌, refl, sym, ◌∙◌, add-one, arith}
-use Rattle.std.specs.Prelude.{if◌then◌else◌, not, nat_lt, nat_le, set, drop, get_or, length, Option, Some, None, IfSome, is_some, Result, Ok, Err}
-use Rattle.std.proofs.lemmas.Bool.{and_parts, and_from, or_right, le-leb, leb-true, ltb-true, eqb-true, eq-eqb}
-use Rattle.uda_exec.specs.Saved.{same_flag}
+use Rattle.std.proofs.lemmas.Bool.Decides.{nat_tests}
+use Rattle.std.proofs.Common.{◌≡◌, ℕ, zero, suc, Bool, true, false, ◌&&◌, List, [], ◌∷◌, ◌++◌, refl, arith}
+use Rattle.std.specs.Prelude.{set, Option, Some, None, IfSome, is_some, Result, Err}
 use Rattle.uda_exec.specs.declared.scheduler.Position.{Position}
 use Rattle.uda_exec.specs.Disks.{FIRST_POSITION, ExecState}
 use Rattle.uda_packet.specs.declared.reply.Reply.{Reply}
-use Rattle.uda_packet.specs.declared.bad.Bad.{Bad}
-use Rattle.uda_packet.specs.declared.command.Command.{Command}
-use Rattle.uda_packet.specs.declared.end.End.{End}
 use Rattle.uda_packet.specs.declared.guest_command.GuestCommand.{GuestCommand}
-use Rattle.uda_packet.specs.declared.guest_command.GuestOp.TheVariants.{Basic}
 use Rattle.uda_packet.specs.declared.guest_end.Identity.{Identity}
-use Rattle.uda_packet.specs.Bad.{invalid_length_end, bad_end}
-use Rattle.uda_packet.specs.Guest.{asked_as, reply_to_bad}
-use Rattle.uda_packet.specs.Reading.{read_command}
-use Rattle.uda_packet.specs.Reply.{basic_reply}
 use Rattle.uda_exec.specs.GuestExecution.{ExecutesGuestAt}
 use Rattle.uda_port.specs.AtOnce.{replies_at_once}
 use Rattle.uda_port.specs.declared.packet.Fetched.{Fetched}
@@ -24,21 +15,19 @@ use Rattle.uda_port.specs.Port.{expects_attention}
 use Rattle.uda_port.specs.Report.{attention_by, available_text, unit_report}
 use Rattle.uda_packet.specs.declared.guest_end.UnitReport.{UnitReport}
 use Rattle.uda_disk.specs.Units.{Units}
-use Rattle.uda_port.proofs.TurnLaws.{strict_executes}
 use Rattle.uda_port.specs.declared.guest.Guest.{Guest}
 use Rattle.uda_port.specs.declared.interrupt.Interrupts.{Interrupts}
 use Rattle.uda_port.specs.declared.phase.Fatal.{Fatal}
 use Rattle.uda_port.specs.declared.phase.Phase.{Phase}
-use Rattle.uda_port.specs.declared.phase.Phase.TheVariants.{Step1, Step2, Step3, Wrap, Step4, Running, Dead}
+use Rattle.uda_port.specs.declared.phase.Phase.TheVariants.{Step1, Running, Dead}
 use Rattle.uda_port.specs.declared.profile.Profile.{Profile}
 use Rattle.uda_port.specs.declared.profile.Profile.TheVariants.{Strict, Compatible}
-use Rattle.uda_port.specs.Guest.{guest_restarted, attention_set, guest_after, is_online_now, first_due}
-use Rattle.uda_port.specs.Interrupt.{NO_INTERRUPTS, interrupts_asked, has_vector, raised, raised_by_step, noted, served, vector_of, IsVectorAddress}
-use Rattle.uda_port.specs.Possible.{has_run, has_rings, has_phase, is_vector, are_asked_by, settings_fit, is_past_steps, can_interrupt, is_silent, is_base_by, is_next_to, rings_fit, none_due, is_guest_running, guest_fits, is_basic_body, are_basic, queue_fits, HasNoWork, is_first_position}
+use Rattle.uda_port.specs.Guest.{guest_restarted, attention_set, guest_after, first_due}
+use Rattle.uda_port.specs.Interrupt.{NO_INTERRUPTS, raised, raised_by_step, noted, served, vector_of, IsVectorAddress}
+use Rattle.uda_port.specs.Possible.{has_run, can_interrupt, rings_fit, none_due, guest_fits, is_basic_body, are_basic, queue_fits, HasNoWork, is_first_position}
 use Rattle.uda_port.specs.PortInvariant.{IsPossible}
 use Rattle.uda_port.specs.declared.port.Port.TheInside.{Inside}
 use Rattle.uda_port.specs.Ring.{RingState}
-use Rattle.uda_port.specs.Startup.{has_bit}
 
 -- ---- a new port
 
@@ -46,335 +35,109 @@ pub starts : {S : Type 0} (guest : Guest) (p : Inside S) → p.phase ≡ Step1 �
     → p.responses ≡ record { base = 0; count = 1; place = 0 } → p.commands ≡ record { base = 0; count = 1; place = 0 }
     → p.guest ≡ guest_restarted guest
     → HasNoWork p.polling p.deliveries p.exec.pending p.waiting.items p.exec.position → IsPossible p
-starts guest p step silent responses commands restarted none = record {
-  phase = rw step (by p.profile).0;
-  interrupts = rw (step, silent) (by p.profile).1;
-  rings = rw (step, responses, commands) refl;
-  guest = rw (step, restarted) (or_right (is_guest_running p.profile Step1) _ refl);
-  queue = rw none.none_waiting (by p.profile).2;
-  no_work = λ _. none;
-}
-  where
-    by : (profile : Profile) → (has_phase profile Step1 ≡ true) × (can_interrupt profile Step1 NO_INTERRUPTS ≡ true)
-        × (queue_fits profile [] ≡ true)
-    by Strict = (refl, refl, refl)
-    by _ = (refl, refl, refl)
+starts guest p step silent responses commands restarted none = grind (arith, nat_tests)
 
 -- ---- interrupts
-
--- raised requests of silent settings, and of others
-silent_raised : (e q : Bool) (v : ℕ) → (not e && ((v == 0) && not q)) ≡ true
-    → (not e && ((v == 0) && not (q || (e && nat_lt 0 v)))) ≡ true
-silent_raised true q v is = absurd (cc)
-silent_raised false true v is = is
-silent_raised false false v is = is
-
-may_by_step : (e q v past : Bool) → (not q || (v && (e || past))) ≡ true
-    → (not (q || (e && v)) || (v && (e || past))) ≡ true
-may_by_step e true v past is = is
-may_by_step true false true past is = refl
-may_by_step _ _ _ past is = refl
-
-may_by_event : (e q v : Bool) → (not q || (v && (e || true))) ≡ true
-    → (not (q || v) || (v && (e || true))) ≡ true
-may_by_event e true v is = is
-may_by_event true false true is = refl
-may_by_event false false true is = refl
-may_by_event e false false is = refl
-
--- a request that could be pending can still be when more can have raised it
-may_later : (e q v past : Bool) → (not q || (v && (e || past))) ≡ true → (not q || (v && (e || true))) ≡ true
-may_later e true false past is = is
-may_later true true true past is = refl
-may_later _ _ _ past is = refl
-
-settings_by_step : (phase : Phase) (e q : Bool) (v : ℕ)
-    → settings_fit phase (record { enabled = e; vector = v; requested = q }) ≡ true
-    → settings_fit phase (record { enabled = e; vector = v; requested = q || (e && nat_lt 0 v) }) ≡ true
-settings_by_step Step1 e q v is = silent_raised e q v is
-settings_by_step (Wrap word) e q v is = silent_raised e q v is
-settings_by_step _ e q v is = is
 
 -- a step of initialization may raise a request
 pub by_step : (profile : Profile) (phase : Phase) (i : Interrupts) → can_interrupt profile phase i ≡ true
     → can_interrupt profile phase (raised_by_step profile i) ≡ true
-by_step Strict phase i is = is
-by_step _ phase i is =
-    let parts = and_parts (settings_fit phase i) _ is in
-    and_from _ _ (settings_by_step phase i.enabled i.requested i.vector parts.0)
-    (may_by_step i.enabled i.requested (has_vector i) (is_past_steps phase) parts.1)
+by_step profile phase i is = grind (arith, nat_tests)
 
 -- a running port may raise one, and so may a port that dies
 pub by_indicator : (profile : Profile) (phase : Phase) (indicator : Option ℕ) (i : Interrupts) → phase ≡ Running
     → can_interrupt profile phase i ≡ true → can_interrupt profile phase (noted indicator profile i) ≡ true
-by_indicator profile phase None i runs is = is
-by_indicator Strict phase (Some at) i runs is = is
-by_indicator _ phase (Some at) i runs is =
-    let parts = and_parts (is_vector i.vector) _ (rw runs at is) in
-    rw runs (and_from _ _ parts.0 (may_by_event i.enabled i.requested (has_vector i) parts.1))
-
--- the vector of any settings
-silent_vector : (i : Interrupts) → is_silent i ≡ true → is_vector i.vector ≡ true
-silent_vector i is =
-    let none : i.vector ≡ 0 = eqb-true _ _ (and_parts (i.vector == 0) _ (and_parts (not i.enabled) _ is).1).0 in
-    rw none refl
-
-asked_vector : (first : ℕ) (i : Interrupts) → are_asked_by first i ≡ true → is_vector i.vector ≡ true
-asked_vector first i is =
-    let four : i.vector ≡ 4 * (first % 0x80) = eqb-true _ _
-    (and_parts (same_flag i.enabled (has_bit first 7)) _ is).1 in
-    and_from (i.vector % 4 == 0) (nat_le i.vector 0x1FC) (eq-eqb _ _ (omega arith)) (le-leb _ _ (omega arith))
-
-has_vector_form : (phase : Phase) (i : Interrupts) → settings_fit phase i ≡ true → is_vector i.vector ≡ true
-has_vector_form Step1 i is = silent_vector i is
-has_vector_form (Wrap word) i is = silent_vector i is
-has_vector_form (Step2 first) i is = asked_vector first i is
-has_vector_form (Step3 first second) i is = asked_vector first i is
-has_vector_form _ i is = is
+by_indicator profile phase indicator i runs is = grind (arith, nat_tests)
 
 -- a port that dies
 pub by_death : (profile : Profile) (phase : Phase) (cause : Fatal) (i : Interrupts)
     → can_interrupt profile phase i ≡ true → can_interrupt profile (Dead cause) (raised profile i) ≡ true
-by_death Strict phase cause i is = is
-by_death _ phase cause i is =
-    let parts = and_parts (settings_fit phase i) _ is in
-    let later = may_later i.enabled i.requested (has_vector i) (is_past_steps phase) parts.1 in
-    and_from _ _ (has_vector_form phase i parts.0) (may_by_event i.enabled i.requested (has_vector i) later)
-
--- the first word has asked for interrupts
-same : (flag : Bool) → same_flag flag flag ≡ true
-same true = refl
-same _ = refl
-
-pub by_first_word : (profile : Profile) (first : ℕ) (i : Interrupts) → can_interrupt profile Step1 i ≡ true
-    → can_interrupt profile (Step2 first) (interrupts_asked profile i first) ≡ true
-by_first_word Strict first i is = is
-by_first_word _ first i is =
-    and_from _ _ (and_from _ _ (same (has_bit first 7)) (eq-eqb _ _ refl)) refl
-
--- the third word ends the steps that have it
-pub by_third_word : (profile : Profile) (first second : ℕ) (i : Interrupts)
-    → can_interrupt profile (Step3 first second) i ≡ true → can_interrupt profile Step4 i ≡ true
-by_third_word Strict first second i is = is
-by_third_word _ first second i is =
-    let parts = and_parts (are_asked_by first i) _ is in
-    and_from _ _ (has_vector_form (Step3 first second) i parts.0) parts.1
-
-pub by_go : (profile : Profile) (i : Interrupts) → can_interrupt profile Step4 i ≡ true
-    → can_interrupt profile Running i ≡ true
-by_go Strict i is = is
-by_go _ i is =
-    let parts = and_parts (is_vector i.vector) _ is in
-    and_from _ _ parts.0 (may_later i.enabled i.requested (has_vector i) false parts.1)
-
--- the emulator takes the request
-silent_served : (i : Interrupts) → is_silent i ≡ true → is_silent (served i) ≡ true
-silent_served i is =
-    let parts = and_parts (not i.enabled) _ is in
-    and_from _ _ parts.0 (and_from _ _ (and_parts (i.vector == 0) _ parts.1).0 refl)
-
-settings_served : (phase : Phase) (i : Interrupts) → settings_fit phase i ≡ true
-    → settings_fit phase (served i) ≡ true
-settings_served Step1 i is = silent_served i is
-settings_served (Wrap word) i is = silent_served i is
-settings_served _ i is = is
+by_death profile phase cause i is = grind (arith, nat_tests)
 
 pub by_service : (profile : Profile) (phase : Phase) (old new : Interrupts) → new ≡ served old
     → can_interrupt profile phase old ≡ true → can_interrupt profile phase new ≡ true
-by_service Strict phase old new now is = rw now (silent_served old is)
-by_service _ phase old new now is =
-    rw now (and_from _ _ (settings_served phase old (and_parts (settings_fit phase old) _ is).0) refl)
-
--- the vector of a request that can be pending
-is_address : (v : ℕ) → is_vector v ≡ true → 0 < v → IsVectorAddress v
-is_address v is some =
-    let parts = and_parts (v % 4 == 0) _ is in
-    let aligned : v % 4 ≡ 0 = eqb-true _ _ parts.0 in
-    let within : v ≤ 0x1FC = leb-true _ _ parts.1 in
-    record { aligned = aligned; least = omega (arith, aligned, some); within = within }
-
-requested_address : (profile : Profile) (phase : Phase) (i : Interrupts) → can_interrupt profile phase i ≡ true
-    → i.requested ≡ true → IsVectorAddress i.vector
-requested_address Strict phase i is requested =
-    let none = (and_parts (i.vector == 0) _ (and_parts (not i.enabled) _ is).1).1 in
-    absurd (cc)
-requested_address _ phase i is requested =
-    let parts = and_parts (settings_fit phase i) _ is in
-    is_address i.vector (has_vector_form phase i parts.0)
-    (ltb-true _ _ (and_parts (has_vector i) _ (rw requested at parts.1)).0)
-
-address_by : (q : Bool) (v : ℕ) → (q ≡ true → IsVectorAddress v)
-    → IfSome (if q then Some v else None) (λ (vector : ℕ). IsVectorAddress vector)
-address_by true v is = is refl
-address_by false v is = tt
+by_service profile phase old new now is = grind (arith, nat_tests)
 
 pub address_of_request : (profile : Profile) (phase : Phase) (i : Interrupts) → can_interrupt profile phase i ≡ true
     → IfSome (vector_of i) (λ (vector : ℕ). IsVectorAddress vector)
-address_of_request profile phase i is = address_by i.requested i.vector (requested_address profile phase i is)
+address_of_request profile phase i is = grind (arith, nat_tests)
 
 -- ---- rings and work: what depends only on whether the port has rings and has run
 
-pub same_rings : (profile : Profile) (phase next : Phase) (responses commands : RingState)
-    → has_rings next ≡ has_rings phase → has_run next ≡ has_run phase
-    → rings_fit profile phase responses commands ≡ true → rings_fit profile next responses commands ≡ true
-same_rings profile phase next responses commands rings run is = rw (rings, run) is
-
 pub same_guest : (profile : Profile) (phase next : Phase) (guest : Guest) → has_run next ≡ has_run phase
     → guest_fits profile phase guest ≡ true → guest_fits profile next guest ≡ true
-same_guest Strict phase next guest run is = is
-same_guest _ phase next guest run is = rw run is
-
--- the go bit starts the port
-pub go_rings : (profile : Profile) (responses commands : RingState)
-    → rings_fit profile Step4 responses commands ≡ true → rings_fit profile Running responses commands ≡ true
-go_rings profile responses commands is =
-    let parts = and_parts (is_base_by profile responses.base) _ is in
-    and_from _ _ parts.0 (and_from _ _ (and_parts (is_next_to responses commands) _ parts.1).0 refl)
-
-pub go_guest : (profile : Profile) (guest : Guest) → guest_fits profile Step4 guest ≡ true
-    → guest_fits profile Running guest ≡ true
-go_guest Strict guest is = is
-go_guest _ guest is = refl
+same_guest profile phase next guest run is = grind (arith, nat_tests)
 
 -- the rings of a running port move their indices only
 pub rings_move : (profile : Profile) (phase : Phase) (a b c d : RingState) → phase ≡ Running → c.base ≡ a.base
     → c.count ≡ a.count → d.base ≡ b.base → rings_fit profile phase a b ≡ true → rings_fit profile phase c d ≡ true
-rings_move profile phase a b c d runs base count other is =
-    let parts = and_parts (is_base_by profile a.base) _ (rw runs at is) in
-    let next : b.base ≡ a.base + 4 * a.count = eqb-true _ _ (and_parts (is_next_to a b) _ parts.1).0 in
-    let moved : d.base ≡ c.base + 4 * c.count = rw (base, count) (other ∙ next) in
-    let at : is_base_by profile c.base ≡ true = rw base parts.0 in
-    rw runs (and_from _ _ at (and_from _ _ (eq-eqb _ _ moved) refl))
+rings_move profile phase a b c d runs base count other is = grind (arith, nat_tests)
 
 -- ---- attention messages
 
 none_due_without : (attentions : List Bool) (drive : ℕ) → none_due attentions ≡ true
     → none_due (set attentions drive false) ≡ true
 none_due_without [] drive is = refl
-none_due_without (due ∷ more) zero is = (and_parts (not due) _ is).1
-none_due_without (due ∷ more) (suc drive) is =
-    let parts = and_parts (not due) _ is in
-    and_from _ _ parts.0 (none_due_without more drive parts.1)
+none_due_without (due ∷ more) zero is = grind arith
+none_due_without (due ∷ more) (suc drive) is = grind (arith, none_due_without more drive)
 
 -- ---- end messages
 
 are_basic_more : (old : List Reply) (r : Reply) → are_basic old ≡ true → is_basic_body r.body ≡ true
     → are_basic (old ++ r ∷ []) ≡ true
-are_basic_more [] r old-are is = and_from _ _ is refl
-are_basic_more (first ∷ rest) r old-are is =
-    let parts = and_parts (is_basic_body first.body) _ old-are in
-    and_from _ _ parts.0 (are_basic_more rest r parts.1 is)
-
--- the queue from an index on
-basic_from : (xs : List Reply) (i : ℕ) (default : Reply) → i < length xs
-    → are_basic (drop i xs) ≡ (is_basic_body (get_or xs i default).body && are_basic (drop (suc i) xs))
-basic_from [] i default less = absurd (omega (arith, less))
-basic_from (x ∷ xs) zero default less = refl
-basic_from (x ∷ xs) (suc i) default less = basic_from xs i default (omega (arith, less))
-
-pub passes_basic : (xs : List Reply) (i : ℕ) (default : Reply) → i < length xs
-    → is_basic_body (get_or xs i default).body ≡ true → are_basic (drop i xs) ≡ are_basic xs
-    → are_basic (drop (i + 1) xs) ≡ are_basic xs
-passes_basic xs i default less basic so_far =
-    sym (basic_from xs i default less ∙ rw (basic, add-one) refl) ∙ so_far
-
-pub fails_basic : (xs : List Reply) (i : ℕ) (default : Reply) → i < length xs
-    → is_basic_body (get_or xs i default).body ≡ false → are_basic (drop i xs) ≡ are_basic xs
-    → false ≡ are_basic xs
-fails_basic xs i default less other so_far = sym (basic_from xs i default less ∙ rw other refl) ∙ so_far
+are_basic_more [] r old-are is = grind arith
+are_basic_more (first ∷ rest) r old-are is = grind (arith, are_basic_more rest r)
 
 -- ---- the first position
 
 pub first_position : (p : Position) → is_first_position p ≡ true → p ≡ FIRST_POSITION
-first_position p is =
-    let parts = and_parts (p.unit == 0) _ is in
-    let unit : p.unit ≡ 0 = eqb-true _ _ parts.0 in
-    let lbn : p.lbn ≡ 0 = eqb-true _ _ parts.1 in
-    let at : ◌≡◌ {A = Position} (record { unit = p.unit; lbn = p.lbn }) FIRST_POSITION = rw (unit, lbn) refl in
-    at
+first_position p is = grind (arith, nat_tests)
 
 -- ---- a running port
 
 pub flags_fit : (profile : Profile) (phase : Phase) (p : Fetched) (m : Result GuestCommand Reply) (guest : Guest)
     → phase ≡ Running → guest_fits profile phase guest ≡ true
     → guest_fits profile phase (flags_kept profile p m guest) ≡ true
-flags_fit Strict phase p m guest runs is = is
-flags_fit _ phase p m guest runs is = rw runs refl
-
-unset_by : (runs : Bool) (guest : Guest) (drive : ℕ)
-    → (runs || ((guest.flags == 0) && none_due guest.attentions)) ≡ true
-    → (runs || ((guest.flags == 0) && none_due (set guest.attentions drive false))) ≡ true
-unset_by true guest drive is = refl
-unset_by _ guest drive is =
-    let parts = and_parts (guest.flags == 0) _ is in
-    and_from _ _ parts.0 (none_due_without guest.attentions drive parts.1)
-
-unset_fits : (profile : Profile) (phase : Phase) (guest : Guest) (drive : ℕ) → guest_fits profile phase guest ≡ true
-    → guest_fits profile phase (attention_set guest drive false) ≡ true
-unset_fits profile phase guest drive is = unset_by (is_guest_running profile phase) guest drive is
+flags_fit profile phase p m guest runs is = grind (arith, nat_tests)
 
 pub after_fits : (profile : Profile) (phase : Phase) (e : Reply) (guest : Guest) → guest_fits profile phase guest ≡ true
     → guest_fits profile phase (guest_after e guest) ≡ true
-after_fits profile phase e guest is =
-    elim (is_online_now e) as (λ online.
-    guest_fits profile phase (if online then attention_set guest e.unit false else guest) ≡ true) [
-      | true ↦ unset_fits profile phase guest e.unit is
-      | false ↦ is
-    ]
+after_fits profile phase e guest is = grind (arith, none_due_without)
 
 -- an attached drive
 pub drive_fits : (profile : Profile) (phase : Phase) (guest : Guest) (drive : ℕ) (there : Bool)
     → guest_fits profile phase guest ≡ true
     → guest_fits profile phase (attention_set guest drive (there && expects_attention profile phase guest.flags)) ≡ true
-drive_fits profile phase guest drive false is = unset_fits profile phase guest drive is
-drive_fits (Compatible identity) Running guest drive true is = refl
-drive_fits profile phase guest drive true is = unset_fits profile phase guest drive is
+drive_fits profile phase guest drive there is = grind (arith, none_due_without)
 
 pub unset_by_set : (profile : Profile) (phase : Phase) (old new : Guest) (drive : ℕ)
     → new ≡ attention_set old drive false → guest_fits profile phase old ≡ true → guest_fits profile phase new ≡ true
-unset_by_set profile phase old new drive set is = rw set (unset_fits profile phase old drive is)
+unset_by_set profile phase old new drive set is = grind (arith, none_due_without)
 
 -- ---- the queue of end messages
 
 pub queue_more : (profile : Profile) (old : List Reply) (r : Reply) → (profile ≡ Strict → is_basic_body r.body ≡ true)
     → queue_fits profile old ≡ true → queue_fits profile (old ++ r ∷ []) ≡ true
-queue_more Strict old r basic is = are_basic_more old r is (basic refl)
-queue_more _ old r basic is = refl
+queue_more profile old r basic is = grind (arith, are_basic_more)
 
 pub queue_answered : (profile : Profile) (old : List Reply) (r : Reply) (exec : ExecState)
     → (profile ≡ Strict → is_basic_body r.body ≡ true) → queue_fits profile old ≡ true
     → queue_fits profile (old ++ replies_at_once profile r exec) ≡ true
-queue_answered Strict old r exec basic is = are_basic_more old r is (basic refl)
-queue_answered _ old r exec basic is = refl
+queue_answered profile old r exec basic is = grind (arith, are_basic_more)
 
 pub queue_less : (profile : Profile) (old : List Reply) (first : Reply) (rest : List Reply) → old ≡ first ∷ rest
     → queue_fits profile old ≡ true → queue_fits profile rest ≡ true
-queue_less Strict old first rest are is = (and_parts (is_basic_body first.body) _ (rw are at is)).1
-queue_less _ old first rest are is = refl
-
--- the end message of an invalid command
-basic_of : (e : End) (r : Reply) → basic_reply e ≡ r → is_basic_body r.body ≡ true
-basic_of e r is = rw (← is) refl
-
-bad_by : (fits : Bool) (read : Result Command Bad) (e : End) (r : Reply)
-    → (if fits then asked_as Basic (reply_to_bad read) else Err (basic_reply e)) ≡ Err r → is_basic_body r.body ≡ true
-bad_by true (Ok c) e r is = absurd (cc)
-bad_by true (Err bad) e r is = basic_of (bad_end bad) r (cc)
-bad_by false read e r is = basic_of e r (cc)
+queue_less profile old first rest are is = grind (arith, nat_tests)
 
 pub strict_refusal : (profile : Profile) (p : Fetched) (r : Reply) → message_in profile p ≡ Err r
     → profile ≡ Strict → is_basic_body r.body ≡ true
-strict_refusal Strict p r is strict =
-    bad_by (p.words.0 == 48) (read_command p.text) (invalid_length_end p.text) r is
-strict_refusal _ p r is strict = absurd (cc)
+strict_refusal profile p r is strict = grind (arith, nat_tests)
 
 -- the end message of an executed command
 pub strict_outcome : (profile : Profile) (j : ℕ) (old : ExecState) (memory : List ℕ) (r : Reply) (new : ExecState)
     (memory_after : List ℕ) → (profile ≡ Strict → old.guest_ops ≡ [])
     → ExecutesGuestAt j old memory r new memory_after → profile ≡ Strict → is_basic_body r.body ≡ true
-strict_outcome profile j old memory r new memory_after none it strict =
-    let did = strict_executes j old memory r new memory_after (none strict) it in
-    basic_of did.end r (sym did.reply_is)
+strict_outcome profile j old memory r new memory_after none it strict = grind (arith, nat_tests)
 
 -- ---- the text of a due attention message
 
@@ -391,5 +154,4 @@ no_notice identity guest units drive due report = rw (due, report) refl
 -- ---- options
 
 pub none_of : {A : Type 0} (o : Option A) → is_some o ≡ false → o ≡ None
-none_of None is = refl
-none_of (Some x) is = absurd (cc)
+none_of o is = grind (arith, nat_tests)

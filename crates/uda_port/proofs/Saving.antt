@@ -4,7 +4,7 @@ use Rattle.std.specs.Prelude.{not, nat_lt, IsTrue}
 use Rattle.uda_packet.specs.declared.guest_command.GuestOp.{GuestOp}
 use Rattle.uda_packet.specs.declared.reply.Reply.{Reply}
 use Rattle.uda_packet.specs.declared.guest_command.GuestCommand.{GuestCommand}
-use Rattle.std.proofs.lemmas.Bool.{eq-eqb, and_parts, ltb_from_iff}
+use Rattle.std.proofs.lemmas.Bool.{eq-eqb, and_parts}
 use Rattle.std.proofs.lemmas.Bool.Decides.{nat_tests}
 use Rattle.std.proofs.lemmas.List.{nil_from_length}
 use Rattle.uda_exec.specs.Disks.{ExecState}
@@ -97,7 +97,7 @@ pub is_saved : {S : Type 0} (p : Inside S) (waiting : List Reply) (exec : SavedE
     → waiting ≡ p.waiting.items → exec ≡ saved_exec p.exec
     → record (saved_port (state_of p)) { begun = p.begun; waiting = record { items = waiting }; exec = exec }
     ≡ saved_port (state_of p)
-is_saved p waiting exec is queue executor = rw (ltb_from_iff is.begun, queue, executor)
+is_saved p waiting exec is queue executor = grind (arith, nat_tests)
 
 -- ---- what continues from it
 
@@ -182,11 +182,11 @@ module _ (k : Counts) (turn : Turn) (s : Step) (begun : nat_lt 0 k.deliveries �
 
   with : (more : Counts) {p : PortState} → Unchanged p s.memory s.new s.memory_after
       → Unchanged (with_counts more p) s.memory (with_counts more s.new) s.memory_after
-  with more same = record { state = ap (with_counts more) same.state; memory_stays = same.memory_stays }
+  with more same = grind (arith, nat_tests)
 
   takes : {p : Packet} {before : PortState} → TakesPacket (counted s) s.memory p before s.memory_after
       → TakesPacket (with_counts once (counted s)) s.memory p (with_counts once before) s.memory_after
-  takes t = record { looks = t.looks; takes = t.takes; others = ap (with_counts once) t.others }
+  takes t = grind (arith, nat_tests)
 
   turns_also : AnyCase turn s → TurnsAlso
   turns_also (Rests rests answer same) = leaves k same.state begun (Rests rests answer (with k same))

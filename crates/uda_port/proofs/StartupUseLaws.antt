@@ -1,12 +1,13 @@
 -- What a word of initialization does, it does in every memory of the same length.
-use Rattle.std.proofs.Common.{◌≡◌, ℕ, Bool, true, false, List, [], ◌∷◌, length, replicate, refl, sym, ap, ap₂, ◌∙◌, arith}
+use Rattle.std.proofs.lemmas.Bool.Decides.{nat_tests}
+use Rattle.std.proofs.Common.{◌≡◌, ℕ, Bool, true, false, List, [], ◌∷◌, length, replicate, refl, sym, ◌∙◌, arith}
 use Rattle.std.specs.Prelude.{◌+◌, ◌-◌, if◌then◌else◌}
 use Rattle.std.proofs.lemmas.List.{length-replicate}
 use Rattle.uda_mem.specs.declared.range.ByteRange.{ByteRange}
 use Rattle.uda_mem.specs.Put.{part}
 use Rattle.uda_mem.specs.Ranges.{EMPTY_RANGE, carried}
 use Rattle.uda_mem.proofs.PutLaws.{put-nil}
-use Rattle.uda_mem.proofs.RangeLaws.{Write, ranges_of, length-carried, carried_puts}
+use Rattle.uda_mem.proofs.RangeLaws.{Write, carried_puts}
 use Rattle.uda_port.specs.declared.area.Area.{Area}
 use Rattle.uda_port.specs.declared.phase.Fatal.TheVariants.{InitializationError, RingWrite}
 use Rattle.uda_port.specs.declared.phase.Phase.{Phase}
@@ -19,9 +20,6 @@ carried_empty : (memory other : List ℕ) → carried (EMPTY_RANGE ∷ []) memor
 unfolding part
 carried_empty memory other = put-nil other 0
 
-abbrev after_of : PortState → List ℕ → PortState × List ℕ
-after_of port memory = (port, memory)
-
 -- what is left in memory, if this range is written and this is the effect in each memory
 record Left (range : ByteRange) (memory : List ℕ) (after : PortState × List ℕ)
     (effect : List ℕ → PortState × List ℕ) : Type 0 where
@@ -33,8 +31,8 @@ record Left (range : ByteRange) (memory : List ℕ) (after : PortState × List �
 leaves : (port : PortState) (memory : List ℕ) (after : PortState × List ℕ) → after ≡ (port, memory)
     → Left EMPTY_RANGE memory after (λ other. (port, other))
 leaves port memory after is = record {
-  only = ap (λ (x : PortState × List ℕ). x.1) is ∙ sym (carried_empty after.1 memory);
-  elsewhere = λ other same. ap₂ after_of (ap (λ (x : PortState × List ℕ). x.0) is) (carried_empty after.1 other);
+  only = rw (is, carried_empty);
+  elsewhere = λ other same. rw (is, carried_empty);
 }
 
 -- the third word, if it zeroes the area
@@ -45,20 +43,10 @@ zeroes port area memory after is =
     let at = area.base - area.below in
     let n = area.below + rings_size area in
     let ws : List Write = record { at = at; bytes = replicate n 0 } ∷ [] in
-    let range : ByteRange → List ByteRange = λ r. r ∷ [] in
-    let ranges : ranges_of ws ≡ area_range area ∷ [] =
-    ap (λ (k : ℕ). range (record { at = at; bytes = k })) (length-replicate n 0) in
     let carry : (other : List ℕ) → length other ≡ length memory
-    → carried (area_range area ∷ []) after.1 other ≡ memory_with_area area other =
-    λ other same.
-    ap₂ (λ (rs : List ByteRange) (m : List ℕ). carried rs m other) (sym ranges)
-    (ap (λ (x : PortState × List ℕ). x.1) is)
-    ∙ carried_puts ws memory other same in
-    record {
-      only = ap (λ (x : PortState × List ℕ). x.1) is ∙ sym (carry memory refl);
-      elsewhere = λ other same.
-          ap₂ after_of (ap (λ (x : PortState × List ℕ). x.0) is) (carry other same);
-    }
+    → carried (area_range area ∷ []) (memory_with_area area memory) other ≡ memory_with_area area other =
+    λ other same. simp length-replicate at (carried_puts ws memory other same) in
+    record { only = rw (is, carry memory refl); elsewhere = λ other same. rw (is, carry other same) }
 
 module _ (old : PortState) (memory : List ℕ) (first second word : ℕ) (after : PortState × List ℕ) where
   abbrev area : Area
@@ -85,12 +73,7 @@ module _ (old : PortState) (memory : List ℕ) (first second word : ℕ) (after 
   third_word is =
       let refused = refuses_third old.profile word in
       let left = third refused (has_area area (length memory)) is in
-      record {
-        only = left.only;
-        elsewhere = λ other same.
-            left.elsewhere other same
-            ∙ ap (λ (n : ℕ). third_by refused (has_area area n) other) (sym same);
-      }
+      record { only = left.only; elsewhere = λ other same. rw same (left.elsewhere other same) }
 
 word_left : (p : Phase) (old : PortState) (memory : List ℕ) (word : ℕ) (after : PortState × List ℕ)
     → after ≡ after_sa_write p old memory word
@@ -98,25 +81,16 @@ word_left : (p : Phase) (old : PortState) (memory : List ℕ) (word : ℕ) (afte
 word_left (Step3 first second) old memory word after is = third_word old memory first second word after is
 word_left _ old memory word after is = leaves _ memory after is
 
--- a memory without bytes stays one
-no_bytes : (bytes : List ℕ) → length bytes ≡ 0 → bytes ≡ []
-no_bytes [] none = refl
-no_bytes (x ∷ xs) none = absurd (omega arith)
-
 pub left_empty : (old : PortState) (word : ℕ) (after : PortState × List ℕ)
     → after ≡ after_sa_write old.phase old [] word → (after.0, []) ≡ after_sa_write old.phase old [] word
-left_empty old word after is =
-    let left = word_left old.phase old [] word after is in
-    let none = no_bytes after.1
-    (ap length left.only ∙ length-carried (range_zeroed old.phase old [] word ∷ []) after.1 []) in
-    ap₂ after_of refl (sym none) ∙ is
+left_empty old word after is = grind (arith, nat_tests)
 
 pub word_is_local : (old : PortState) (memory : List ℕ) (word : ℕ) (after : PortState × List ℕ)
     → WordEffect false (old, memory) word after
     → WordIsLocal false (old, memory) word (range_zeroed old.phase old memory word) after
 word_is_local old memory word after is =
     let left = word_left old.phase old memory word after is in
-    record { only = left.only; elsewhere = left.elsewhere }
+    search left
 
 pub missing_is_local : (old : PortState) (memory : List ℕ) (word : ℕ) (after : PortState × List ℕ)
     → WordEffect true (old, memory) word after → WordIsLocal true (old, memory) word EMPTY_RANGE after

@@ -53,17 +53,17 @@ strict_room memory at n = refl
 
 module _ (old : PortState) (strict : old.profile ≡ Strict) where
   strict_shows : (phase : Phase) → port_in_phase old phase ≡ record old { phase = phase }
-  strict_shows phase = rw strict refl
+  strict_shows phase = rw strict
 
   strict_first : (word : ℕ) → after_step1_write old word
       ≡ (if has_bit word 15 then (if has_bit word 14 then record old { phase = Dead InitializationError } else
       record old { phase = Step2 word }) else old)
-  strict_first word = rw strict refl
+  strict_first word = rw strict
 
   strict_second : (first word : ℕ) → after_step2_write old first word
       ≡ (if has_bit word 0 then record old { phase = Dead InitializationError } else record old
       { phase = Step3 first word })
-  strict_second first word = rw strict refl
+  strict_second first word = rw strict
 
   strict_third : (memory : List ℕ) (first second word : ℕ) → after_step3_write old memory first second word ≡ (
       if nat_lt 3 word then (record old { phase = Dead InitializationError }, memory)
@@ -82,22 +82,22 @@ module _ (old : PortState) (strict : old.profile ≡ Strict) where
             (replicate (4 + 4 * (response_count first + command_count first)) 0),
       )
       else (record old { phase = Dead RingWrite }, memory))
-  strict_third memory first second word = rw strict refl
+  strict_third memory first second word = rw strict
 
   -- ---- turns
 
   strict_commands : (memory : List ℕ) → command_indicator old memory ≡ None
-  strict_commands memory = rw strict refl
+  strict_commands memory = rw strict
 
   strict_responses : (memory : List ℕ) → response_indicator old memory ≡ None
-  strict_responses memory = rw strict refl
+  strict_responses memory = rw strict
 
   -- no attention message is due, so the next text is that of the first queued end message
   strict_attention : attention_text old ≡ None
-  strict_attention = rw strict refl
+  strict_attention = rw strict
 
   strict_next : next_text old ≡ option_map (end_text old) (slice_get old.waiting 0)
-  strict_next = rw strict refl
+  strict_next = rw strict
 
 -- without an indicator, memory and interrupts are unchanged
 untold_memory : (memory : List ℕ) → memory_with_indicator memory None ≡ memory

@@ -1,7 +1,9 @@
 -- A turn changes only the blocks that it uses.
-use Rattle.std.proofs.Common.{◌≡◌, ℕ, false, List, [], Option, Some, None, refl, sym, ap, subst}
+use Rattle.std.proofs.lemmas.Bool.Decides.{nat_tests}
+use Rattle.std.proofs.Common.{arith}
+use Rattle.std.proofs.Common.{◌≡◌, ℕ, false, List, [], Option, Some, None, refl, ap}
 use Rattle.uda_exec.specs.BlockChanges.{ChangesOnly}
-use Rattle.uda_exec.proofs.BlockChangesLaw.{only_used_blocks_change, leaves_all}
+use Rattle.uda_exec.proofs.BlockChangesLaw.{only_used_blocks_change}
 use Rattle.uda_port.specs.declared.memory_use.Missing.{Missing}
 use Rattle.uda_port.specs.declared.turn.Turn.{Turn}
 use Rattle.uda_port.specs.declared.turn_at.Fate.{Fate}
@@ -9,7 +11,6 @@ use Rattle.uda_port.specs.declared.turn_at.Fate.TheVariants.{Usual, FailsInFetch
 use Rattle.uda_port.specs.BlockUse.{memory_by, memory_executed, blocks_in, written_in, blocks_of, block_bytes_of}
 use Rattle.uda_port.specs.MemoryUse.{fate_of, EffectBy, EffectWithout, HasValidRings}
 use Rattle.uda_port.specs.declared.plan.Plan.{Plan}
-use Rattle.uda_port.specs.declared.plan.Plan.TheVariants.{ToExecute}
 use Rattle.uda_port.specs.Plan.{is_execution, plan_of}
 use Rattle.uda_port.specs.Port.{PortState}
 use Rattle.uda_port.specs.Turn.{ExecutesOne, may_fetch, port_turn_on, port_not_polling}
@@ -18,13 +19,11 @@ use Rattle.uda_port.proofs.PlanLaws.{Outcome, Executing, Other, outcome, units_o
 
 none_executed : (plan : Plan) (fate : Fate) (memory : List ℕ) → is_execution plan ≡ false
     → memory_executed plan fate memory ≡ None
-none_executed ToExecute fate memory is = absurd (cc)
-none_executed _ fate memory is = refl
+none_executed plan fate memory is = grind (arith, nat_tests)
 
 none_failed : (plan : Plan) (fate : Fate) (memory : List ℕ) → memory_by fate memory ≡ None
     → memory_executed plan fate memory ≡ None
-none_failed ToExecute fate memory is = is
-none_failed _ fate memory is = refl
+none_failed plan fate memory is = grind (arith, nat_tests)
 
 module _ (old : PortState) (memory : List ℕ) (j : ℕ) (new : PortState) (memory_after : List ℕ)
     (valid : HasValidRings old) where
@@ -41,7 +40,7 @@ module _ (old : PortState) (memory : List ℕ) (j : ℕ) (new : PortState) (memo
       (as_guest old.profile j old.exec given x.end new.exec after valid.strict x.executes)
 
   unchanged : (found : Option (List ℕ)) → found ≡ None → units_of new ≡ units_of old → Changes found
-  unchanged found none same = subst Changes (sym none) (leaves_all [] (units_of old) (units_of new) same)
+  unchanged found none same = grind (arith, nat_tests)
 
   by_fate : (missing : Missing) (f : Fate) (turn : Turn) → fate_of missing old memory ≡ f
       → EffectBy f j (old, memory) turn (new, memory_after) → Changes (memory_executed plan f memory)
@@ -50,17 +49,14 @@ module _ (old : PortState) (memory : List ℕ) (j : ℕ) (new : PortState) (memo
       by : Outcome (λ k. k ≡ j) turn (record { old = old; memory = memory; new = new; memory_after = memory_after })
           → Changes (memory_executed plan Usual memory)
       by (Executing planned executes k at x) =
-          subst (λ (p : Plan). Changes (memory_executed p Usual memory)) (sym planned)
-          (executed memory memory_after
-          (subst (λ (i : ℕ). ExecutesOne i (port_not_polling (port_turn_on old)) memory new memory_after) at x))
+          rw planned (executed memory memory_after (rw at at x))
       by (Other none never same) = unchanged _ (none_executed plan Usual memory none) same
   by_fate missing (FailsInFetch cause) turn is it =
       unchanged _ (none_failed plan (FailsInFetch cause) memory refl) (ap units_of it.0.died)
   by_fate missing (FailsLater cause) turn is it =
       unchanged _ (none_failed plan (FailsLater cause) memory refl) (ap units_of it.0.died)
   by_fate missing WithoutBuffer turn is it =
-      subst (λ (p : Plan). Changes (memory_executed p WithoutBuffer memory))
-      (sym (without_buffer old.phase missing (may_fetch old) plan is)) (executed [] [] it.0.executes)
+      rw (without_buffer old.phase missing (may_fetch old) plan is) (executed [] [] it.0.executes)
 
 pub turn_changes : (missing : Missing) (place : ℕ) (old : PortState) (memory : List ℕ) (turn : Turn) (new : PortState)
     (memory_after : List ℕ) → HasValidRings old

@@ -1,7 +1,7 @@
 use Rattle.std.proofs.Common.{None, rules, take, refl, arith}
 use Rattle.uda_port.proofs.PossibleLaws.{unset_by_set}
 use Rattle.uda_port.proofs.TurnLaws.{attention_first}
-use Rattle.uda_port.proofs.PortSteps.{runs_on, reads_no_ring, writes_no_packet}
+use Rattle.uda_port.proofs.PortSteps.{runs_on, reads_no_ring}
 use Rattle.uda_port.proofs.port.Port.notify.Goals as goal
 
 pub returns-in-OutsideMemory-clause-effect : goal.returns-in-OutsideMemory-clause-effect
@@ -31,7 +31,3 @@ invariant_of-self-2 g c =
 
 pub returns-in-OutsideMemory-clause-cause : goal.returns-in-OutsideMemory-clause-cause
 returns-in-OutsideMemory-clause-cause g c = reads_no_ring _ _ c.requires.running
-
-pub returns-then-not-put_message-clause-cause : goal.returns-then-not-put_message-clause-cause
-returns-then-not-put_message-clause-cause g c =
-    writes_no_packet c.self.inside.profile c.self.inside.phase (rw (← c.self.view_is) at c.requires.running)

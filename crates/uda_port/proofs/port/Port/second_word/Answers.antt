@@ -7,7 +7,7 @@ die-requires g c =
     let refused = sym c.refuses_second.ensures ∙ c.if-refuses_second.true in (
       search rules,
       rw (← c.self.view_is)
-          (second_refused c.self.inside.profile c.self.inside.phase c.args.first c.args.word (rw (← c.self.view_is) at c.requires.step) refused),
+          (second_refused _ _ c.args.first c.args.word (rw (← c.self.view_is) at c.requires.step) refused),
     )
 
 pub invariant_of-self : goal.invariant_of-self

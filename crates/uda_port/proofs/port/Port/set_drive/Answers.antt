@@ -1,3 +1,4 @@
+use Rattle.std.proofs.Common.{arith}
 use Rattle.std.proofs.Common.{◌≡◌, Option, Some, None, refl}
 use Rattle.std.specs.Prelude.{option_map, is_some}
 use Rattle.uda_exec.specs.Drives.{drive_state}
@@ -10,28 +11,8 @@ is_some-map f (Some a) = refl
 
 pub invariant_of-self : goal.invariant_of-self
 invariant_of-self g c =
-    let is = c.self.invariant in
-    let was = is.possible in
-    let put = c.set_drive-old.ensures in
-    record {
-      room = is.room;
-      credits = is.credits;
-      conserved = rw put.set is.conserved;
-      four_units = put.four_units;
-      well_formed = put.well_formed;
-      ordered = is.ordered;
-      begun = is.begun;
-      strict = rw put.set is.strict;
-      possible = record {
-        phase = was.phase;
-        interrupts = was.interrupts;
-        rings = was.rings;
-        guest = rw (c.set_attention.ensures, rw (← c.self.view_is) at c.attention_due-due.ensures.due)
-            (drive_fits c.self.inside.profile c.self.inside.phase c.self.inside.guest _ _ was.guest);
-        queue = was.queue;
-        no_work = λ rests. let none = was.no_work rests in rw put.set (assumption none);
-      };
-    }
+    let due = rw (← c.self.view_is) at c.attention_due-due.ensures.due in
+    grind (arith, c.self.invariant, c.set_drive-old.ensures.set, drive_fits)
 
 pub returns-clause-set : goal.returns-clause-set
 returns-clause-set g c =

@@ -4,6 +4,6 @@ use Rattle.uda_port.proofs.port.Port.set_type.Goals as goal
 
 pub returns-clause-free : goal.returns-clause-free
 returns-clause-free g c = (
-  λ _. (c.if-unit-ge4.false, rw (← c.self.view_is) (sym c.unit.ensures.info ∙ none_of c.unit.result (sym c.is_some.ensures ∙ c.if-is_some.false))),
+  λ _. (c.if-unit-ge4.false, rw (← c.self.view_is) (sym c.unit.ensures.info ∙ none_of _ (sym c.is_some.ensures ∙ c.if-is_some.false))),
   λ free. refl,
 )

@@ -8,14 +8,14 @@ die-requires g c =
     let refused = sym c.refuses_third.ensures ∙ c.if-refuses_third.true in (
       search rules,
       rw (← c.self.view_is)
-          (third_refused c.self.inside.profile c.self.inside.phase c.args.first c.args.second c.args.word (rw (← c.self.view_is) at c.requires.step) refused),
+          (third_refused _ _ c.args.first c.args.second c.args.word (rw (← c.self.view_is) at c.requires.step) refused),
     )
 
 pub die-requires-then-not-is_in : goal.die-requires-then-not-is_in
 die-requires-then-not-is_in g c = (
   search rules,
   rw (← c.self.view_is)
-      (area_refused c.self.inside.profile c.self.inside.phase c.args.first c.args.second (rw (← c.self.view_is) at c.requires.step)),
+      (area_refused _ _ c.args.first c.args.second (rw (← c.self.view_is) at c.requires.step)),
 )
 
 pub set_rings-requires : goal.set_rings-requires

@@ -1,10 +1,5 @@
-use Rattle.uda_port.proofs.AttentionLaws.{first, nearer}
+use Rattle.uda_port.proofs.AttentionLaws.{nearer}
 use Rattle.uda_port.proofs.port.Port.turn_in.Goals as goal
-
-pub returns-clause-attention : goal.returns-clause-attention
-returns-clause-attention g c = λ may.
-    first c.args.self.now c.args.memory.now c.take_turn-turn.new.self c.take_turn-turn.new.memory may c.take_turn-turn.result
-    c.take_turn-turn.ensures.effect
 
 pub returns-clause-attention_nearer : goal.returns-clause-attention_nearer
 returns-clause-attention_nearer g c = λ may.

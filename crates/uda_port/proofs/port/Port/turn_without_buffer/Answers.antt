@@ -1,7 +1,8 @@
 use Rattle.std.proofs.Common.{List, ℕ, [], arith, refl, subst}
 use Rattle.uda_port.specs.Port.{PortState}
 use Rattle.uda_port.specs.Turn.{ExecutesOne, TurnEffect, port_not_polling, port_turn_on}
-use Rattle.uda_port.proofs.MemoryUseLaws.{executes_pending, no_bytes}
+use Rattle.std.proofs.lemmas.List.{nil_from_length}
+use Rattle.uda_port.proofs.MemoryUseLaws.{executes_pending}
 use Rattle.uda_port.proofs.PortSteps.{stops_polling}
 use Rattle.uda_port.proofs.TraceLaws.{reports_from}
 use Rattle.uda_port.proofs.port.Port.turn_without_buffer.Goals as goal
@@ -26,7 +27,7 @@ returns-clause-executes g c =
       answer = ran;
       executes =
           subst (λ (m : List ℕ). ExecutesOne c.args.place (port_not_polling (port_turn_on old)) [] new m)
-          (no_bytes after c.take_turn.auto.memory) chosen;
+          (nil_from_length after c.take_turn.auto.memory) chosen;
     }
 
 pub returns-clause-reports : goal.returns-clause-reports

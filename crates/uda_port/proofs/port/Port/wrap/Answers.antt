@@ -3,4 +3,4 @@ use Rattle.uda_port.proofs.port.Port.wrap.Goals as goal
 
 pub invariant_of-self : goal.invariant_of-self
 invariant_of-self g c =
-    wraps c.self.inside c.args.word c.in-Compatible.field-0 (rw (← c.self.view_is) at c.requires.step) c.in-Compatible.is c.self.invariant
+    wraps c.self.inside c.args.word _ (rw (← c.self.view_is) at c.requires.step) c.in-Compatible.is c.self.invariant

@@ -1,7 +1,5 @@
-use Rattle.std.proofs.Common.{Bool, refl, sym, subst, true, false}
-use Rattle.uda_mem.specs.declared.range.ByteRange.{ByteRange}
-use Rattle.uda_mem.specs.Ranges.{EMPTY_RANGE}
-use Rattle.uda_port.specs.StartupUse.{WordEffect, WordIsLocal}
+use Rattle.std.proofs.Common.{refl, true}
+use Rattle.uda_port.specs.StartupUse.{WordEffect}
 use Rattle.uda_port.proofs.StartupUseLaws.{left_empty, word_is_local, missing_is_local}
 use Rattle.uda_port.proofs.port.Port.write_sa_at.Goals as goal
 
@@ -12,8 +10,7 @@ returns-then-missing-clause-local g c =
     let new = c.write_sa_in.new.self in
     let steps = left_empty old c.args.word (new, c.write_sa_in.new.memory) c.write_sa_in.ensures.effect in
     let effect : WordEffect true (old, memory) c.args.word (new, memory) = (steps, refl) in
-    subst (λ (m : Bool). WordIsLocal m (old, memory) c.args.word EMPTY_RANGE (new, memory)) (sym c.if-missing.true)
-    (missing_is_local old memory c.args.word (new, memory) effect)
+    rw c.if-missing.true (missing_is_local old memory c.args.word (new, memory) effect)
 
 pub returns-clause-local : goal.returns-clause-local
 returns-clause-local g c =
@@ -21,8 +18,4 @@ returns-clause-local g c =
     let memory = c.args.memory.now in
     let new = c.write_sa_in-2.new in
     let local = word_is_local old memory c.args.word (new.self, new.memory) c.write_sa_in-2.ensures.effect in
-    let here = subst (λ (r : ByteRange). WordIsLocal false (old, memory) c.args.word r (new.self, new.memory))
-    (sym c.range_zeroed-range.ensures.range) local in
-    subst
-    (λ (m : Bool). WordIsLocal m (old, memory) c.args.word c.range_zeroed-range.result (new.self, new.memory))
-    (sym c.if-missing.false) here
+    rw (c.if-missing.false, c.range_zeroed-range.ensures.range) local

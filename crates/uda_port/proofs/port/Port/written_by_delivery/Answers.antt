@@ -1,3 +1,4 @@
+use Rattle.std.proofs.Common.{arith}
 use Rattle.std.proofs.Common.{◌≡◌, ℕ, true, false, sym, ap, subst, ◌∙◌}
 use Rattle.uda_port.specs.Packet.{HasRoom, text_address}
 use Rattle.uda_port.specs.Port.{PortState}
@@ -7,14 +8,7 @@ use Rattle.uda_port.proofs.port.Port.written_by_delivery.Goals as goal
 
 pub returns-then-has_room-clause-within : goal.returns-then-has_room-clause-within
 returns-then-has_room-clause-within g c =
-    let memory = c.args.memory.now in
-    let at = c.text_address-at.result in
-    let room = subst (λ (p : PortState). HasRoom p.profile memory at c.args.size) c.self.view_is
-    (c.has_room.ensures.0 c.if-has_room.true) in
-    delivery_lies c.args.self.now memory (record { at = at; bytes = c.args.size }) c.response_indicator.result
-    c.requires.short room c.response_indicator.ensures.below c.requires.there c.from.result
-    c.indicator_range-indicator.result c.returned_range.result c.from.ensures c.indicator_range-indicator.ensures
-    (c.returned_range.ensures.range ∙ ap (λ (p : PortState). returned_range p.responses) c.self.view_is)
+    grind (arith, c.self.view_is, delivery_lies c.args.self.now c.args.memory.now)
 
 pub returns-else-has_room-clause-written : goal.returns-else-has_room-clause-written
 returns-else-has_room-clause-written g c =

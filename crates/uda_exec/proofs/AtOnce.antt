@@ -153,14 +153,6 @@ erased_none old n = record {
   calls = go_none old.failing_call;
 }
 
-pub accessed_more : (old now new : StoreState) (n done piece : ℕ) (to : List ℕ) → ChecksBlocks old done now
-    → ReadsBlocks now n piece new to → ChecksBlocks old (done + piece) new
-accessed_more old now new n done piece to before r = record {
-  state_stays = r.state_stays ∙ ap (λ (s : StoreState). record s { failing_call = new.failing_call; ready = new.ready })
-      before.state_stays;
-  calls = go_more done piece old.failing_call now.failing_call new.failing_call before.calls r.calls;
-}
-
 -- zeros in `count` chunks
 chunks-zeros : (count : ℕ) (from : List ℕ) → from ≡ replicate (512 * count) 0 → first_chunks 512 count from
     ≡ replicate count (replicate 512 0)

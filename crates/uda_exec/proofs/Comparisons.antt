@@ -1,8 +1,8 @@
 -- The comparison of blocks with memory from block to block; and the list of additional operations.
-use Rattle.std.proofs.Common.{◌≡◌, ℕ, ◌+◌, ◌-◌, ◌*◌, ◌/◌, ◌%◌, ◌<◌, ◌≤◌, true, List, [], ◌∷◌, ◌++◌, length, get_or, replicate, Option, Some, None, refl, sym, ap, ◌∙◌, arith, append-nil, append_assoc, length-append}
+use Rattle.std.proofs.Common.{◌≡◌, ℕ, ◌+◌, ◌-◌, ◌*◌, ◌/◌, ◌%◌, ◌<◌, ◌≤◌, true, List, [], ◌∷◌, ◌++◌, length, get_or, replicate, Option, Some, None, refl, sym, ap, ◌∙◌, arith, append_assoc, length-append}
 use Rattle.std.specs.Prelude.{slice_index}
 use Rattle.std.specs.Prelude.{unwrap_or}
-use Rattle.std.proofs.lemmas.List.{replicate_more, get_or_push, length-replicate}
+use Rattle.std.proofs.lemmas.List.{get_or_push, length-replicate}
 use Rattle.std.proofs.lemmas.Option.{get_or_from_slice_get, unwrap_or-slice_get, slice_get_past}
 use Rattle.uda_mem.proofs.PutLaws.{get_or-part}
 use Rattle.uda_image.specs.Store.{ReadsBlock}
@@ -73,24 +73,6 @@ pub record Padded (old : List GuestOp) (place : ℕ) (now : List GuestOp) : Type
   pub within : length now ≤ place
   pub further : length old ≤ length now
   pub is : now ≡ old ++ replicate (length now - length old) guest.Basic
-
-pub padded_first : (old : List GuestOp) (place : ℕ) → length old ≤ place → Padded old place old
-padded_first old place h =
-    let none : length old - length old ≡ 0 = omega arith in
-    record { within = h; further = omega arith; is = rw none (sym (append-nil old)) }
-
-pub padded_next : (old now new : List GuestOp) (place : ℕ) → Padded old place now → length now < place
-    → new ≡ now ++ guest.Basic ∷ [] → length new ≡ length now + 1 → Padded old place new
-padded_next old now new place p below is longer =
-    let more : length new - length old ≡ (length now - length old) + 1 = omega (arith, p.further) in
-    record {
-      within = omega (arith, longer);
-      further = omega (arith, longer, p.further);
-      is = is ∙ ap (λ (xs : List GuestOp). xs ++ guest.Basic ∷ []) p.is
-          ∙ append_assoc old (replicate (length now - length old) guest.Basic) (guest.Basic ∷ [])
-          ∙ ap (λ (xs : List GuestOp). old ++ xs) (replicate_more (length now - length old) guest.Basic)
-          ∙ ap (λ (n : ℕ). old ++ replicate n guest.Basic) (sym more);
-    }
 
 -- the additional operation of the last command is found at its index
 op_last : (place : ℕ) (ops : List GuestOp) (op : GuestOp) → length ops ≤ place

@@ -1,17 +1,8 @@
 use Rattle.std.proofs.Common.{◌∙◌, arith}
-use Rattle.uda_exec.proofs.Changes.{changes_again, length-changes}
+use Rattle.uda_exec.proofs.Changes.{changes_again}
 use Rattle.uda_exec.proofs.Steps.{progress_stops, way_next, way_on}
 use Rattle.uda_image.proofs.SoundLaws.{sound_before, stays_sound}
 use Rattle.uda_exec.proofs.block_transfer.move_blocks.Goals as goal
-
-pub loop-done-init : goal.loop-done-init
-loop-done-init g c =
-    let ahead = c.move_at_once-done.ensures in
-    record { within = ahead.within; attributes = ahead.attributes; changes = ahead.changes; moves = ahead.moves }
-
-pub move_block-requires-clause-in_memory : goal.move_block-requires-clause-in_memory
-move_block-requires-clause-in_memory g c =
-    let same = length-changes _ _ _ _ c.loop-done.invariant.changes in omega arith
 
 pub returns-in_default-clause-changes : goal.returns-in_default-clause-changes
 returns-in_default-clause-changes g c = changes_again _ _ _ _ _ c.loop-done.invariant.changes

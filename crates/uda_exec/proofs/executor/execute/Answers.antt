@@ -1,4 +1,4 @@
-use Rattle.std.proofs.Common.{◌≡◌, ◌≤◌, false, true, [], Some, None, length, refl, sym, ◌∙◌, zero-le}
+use Rattle.std.proofs.Common.{◌≡◌, ◌≤◌, false, true, Some, None, length, refl, sym, ◌∙◌, zero-le}
 use Rattle.std.specs.Prelude.{slice_get}
 use Rattle.std.proofs.lemmas.Option.{slice_get-get_or, slice_get_past}
 use Rattle.uda_exec.proofs.Words.{is_controller, world_of}
@@ -41,13 +41,6 @@ returns-in-None-clause-executes g c =
     (idle-barred c.args.command (world_of c.args.units.now c.args.memory.now) asks.0 (Some None) _ asks.1
     (slot_in c.args.units.now c.args.command.unit (Some None) empty) (λ odd missing. refl))
     (Answers-plain c.args.command _ 0 zero-le))
-
-pub execute-requires : goal.execute-requires
-execute-requires g c = record {
-  memory = c.requires.memory;
-  unit = asks_some c.args.command.op []
-      (sym c.is_controller.ensures ∙ c.if-is_controller.false);
-}
 
 pub returns-in-Some-clause-executes : goal.returns-in-Some-clause-executes
 returns-in-Some-clause-executes g c =

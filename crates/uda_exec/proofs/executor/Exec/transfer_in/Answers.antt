@@ -6,10 +6,6 @@ use Rattle.uda_exec.specs.Commands.{transfer_buffer_length}
 use Rattle.uda_exec.proofs.Written.{length-written, used_in_memory}
 use Rattle.uda_exec.proofs.executor.Exec.transfer_in.Goals as goal
 
-pub returns-clause-transfer : goal.returns-clause-transfer
-returns-clause-transfer g c =
-    c.transfer_used_at.ensures.transfer ∙ ap (transfer_used_at c.args.self.now c.args.place) c.len.ensures.len
-
 pub returns-clause-in_memory : goal.returns-clause-in_memory
 returns-clause-in_memory g c =
     let exec = c.args.self.now in

@@ -1,20 +1,18 @@
 -- Whichever eligible command is executed first, the result is the same; and what else a driver needs of a
 -- list of commands.
-use Rattle.std.proofs.Common.{◌≡◌, ℕ, ◌+◌, ◌-◌, inl, inr, min, ◌<◌, List, [], ◌∷◌, ◌++◌, length, get_or, take, replicate, Option, Some, None, refl, sym, ap, ap₂, subst₂, ◌∙◌, arith}
+use Rattle.std.proofs.Common.{◌≡◌, ℕ, ◌+◌, ◌-◌, inl, inr, min, ◌<◌, List, [], ◌∷◌, length, get_or, take, replicate, Option, Some, None, refl, sym, ap, ap₂, subst₂, ◌∙◌, arith}
 use Rattle.std.specs.Prelude.{slice_get, option_map}
 use Rattle.std.proofs.lemmas.List.{same_lists, take_at}
 use Rattle.std.proofs.lemmas.Bool.{cases_lt}
 use Rattle.std.proofs.lemmas.List.Elements.{All-head, All-tail}
 use Rattle.std.proofs.lemmas.Option.{slice_get-map, slice_get_within, get_or_from_slice_get}
 use Rattle.uda_mem.proofs.PutLaws.{length-put, length-part, get_or-part, get_or-put_before, get_or-put_at, get_or-put_behind, put-put_comm}
-use Rattle.uda_packet.specs.declared.end.Kind.TheVariants as kind
-use Rattle.uda_disk.specs.Request as ask
+use Rattle.uda_packet.specs.declared.command.Op.TheVariants as op
 use Rattle.uda_disk.proofs.Runs.{first_is_free, runs-push}
 use Rattle.uda_disk.proofs.Swap as item
 use Rattle.uda_disk.proofs.Swap.{Told, judge}
-use Rattle.uda_exec.specs.Commands.{act_by}
-use Rattle.uda_exec.proofs.Words.{put, part, Overlap, Command, Op, Kind, Transfer, transfer_of, End, Disks, Act, buffer_start, buffer_length, bytes_at, asks_by, act_of, World, AreIndependent, FixedCommand, commands_of, effect_of, effects, OrderIsIrrelevant, OneMore, with_bytes, PassesThrough, SameData, DependsOnDataAlone}
-use Rattle.uda_exec.proofs.Requests.{asks, act_of-put}
+use Rattle.uda_exec.proofs.Words.{put, part, Overlap, Command, Op, End, Disks, Act, buffer_start, buffer_length, bytes_at, act_of, World, AreIndependent, FixedCommand, commands_of, effect_of, effects, OrderIsIrrelevant, OneMore, with_bytes, PassesThrough, SameData, DependsOnDataAlone}
+use Rattle.uda_exec.proofs.Requests.{asks, act_of-put, act_shared}
 use Rattle.uda_exec.proofs.Swap.{swaps, item_of, lands, effect-lands, effect-none, behind, length-told}
 
 pub order_is_irrelevant : OrderIsIrrelevant
@@ -98,30 +96,13 @@ part-shared memory other at n same h =
     ∙ ap (take (length (part memory at n))) h
     ∙ take_at (part other at n) (rest other) (length (part memory at n)) (omega (arith, same))
 
-asks_by-put_both : (k : Kind) (t : Transfer) (memory other : List ℕ) (at : ℕ) (bytes : List ℕ)
-    → length memory ≡ length other → asks_by k t memory ≡ asks_by k t other
-    → asks_by k t (put memory at bytes) ≡ asks_by k t (put other at bytes)
-asks_by-put_both kind.Access t memory other at bytes same h = refl
-asks_by-put_both kind.Erase t memory other at bytes same h = refl
-asks_by-put_both kind.Read t memory other at bytes same h = refl
-asks_by-put_both kind.Write t memory other at bytes same h =
-    let asked : bytes_at memory t.buffer t.bytes ≡ bytes_at other t.buffer t.bytes = cc in
-    let shared = part-shared memory other t.buffer t.bytes same asked in
-    ap (λ (part : List ℕ). ask.Write t.lbn (part ++ replicate (t.bytes - length part) 0))
-    (part-put_both memory other at bytes t.buffer t.bytes same shared)
-
-act_by-put_both : (found : Option Transfer) (o : Op) (memory other : List ℕ) (at : ℕ) (bytes : List ℕ)
-    → length memory ≡ length other → act_by found o memory ≡ act_by found o other
-    → act_by found o (put memory at bytes) ≡ act_by found o (put other at bytes)
-act_by-put_both None o memory other at bytes same h = refl
-act_by-put_both (Some t) o memory other at bytes same h =
-    let asked : asks_by t.kind t memory ≡ asks_by t.kind t other = cc in
-    ap (λ (a : Act). Some a) (asks_by-put_both t.kind t memory other at bytes same asked)
-
 act_of-put_both : (o : Op) (memory other : List ℕ) (at : ℕ) (bytes : List ℕ) → length memory ≡ length other
     → act_of o memory ≡ act_of o other → act_of o (put memory at bytes) ≡ act_of o (put other at bytes)
-act_of-put_both o memory other at bytes same h =
-    act_by-put_both (transfer_of o) o memory other at bytes same h
+act_of-put_both (op.Write n address lbn) memory other at bytes same h =
+    let asked : bytes_at memory address n ≡ bytes_at other address n = cc in
+    act_shared (op.Write n address lbn) (put other at bytes) (put memory at bytes)
+    (part-put_both memory other at bytes address n same (part-shared memory other address n same asked))
+act_of-put_both _ memory other at bytes same h = refl
 
 -- one command with the same action in two memories: one end message, the same units, and memories that agree
 -- as before

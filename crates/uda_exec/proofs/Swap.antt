@@ -11,6 +11,7 @@ use Rattle.uda_disk.proofs.Runs.{Swaps, swaps_idle, swaps_sym}
 use Rattle.uda_disk.proofs.Swap as item
 use Rattle.uda_disk.proofs.Swap.{Item, Told, judge, told, does_by}
 use Rattle.uda_exec.proofs.Words.{put, Overlap, Command, Op, End, Disk, Disks, Act, Request, CheckResult, Rejected, Accepted, blocks_moved, due, with_buffer_checks, is_odd, is_missing, is_controller, buffer_start, buffer_length, act_of, World, reply, end_for, check_in, does, effect_by, command_may_overtake, AreIndependent, FixedCommand, effect_of}
+use Rattle.uda_exec.proofs.Changes.{landing-le}
 use Rattle.uda_exec.proofs.Transferred.{check_result-with_buffer_checks}
 use Rattle.uda_exec.proofs.Requests.{Asks, asks, asks_some, asks_nothing, act_of-put}
 
@@ -63,7 +64,8 @@ effect-none x w is = ap (λ (a : Option Act). effect_by x.outcome x.command a w)
 pub length-told : (x : FixedCommand) (act : Act) (n : ℕ) (b : CheckResult) → Asks x.command.op act
     → length (told (item_of x act n) b).1 ≤ buffer_length x.command.op
 length-told x act n (Rejected refusal) h = zero-le
-length-told x act n (Accepted d) h = h.brings (blocks_moved x.outcome (due act d.blocks))
+length-told x act n (Accepted d) h =
+    omega (arith, h.brings (blocks_moved x.outcome (due act d.blocks)), landing-le x.command.op)
 
 -- ---- in either order
 

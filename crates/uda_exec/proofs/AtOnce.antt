@@ -1,9 +1,9 @@
 -- Several blocks of a transfer moved in one call, for each kind of transfer.
-use Rattle.std.proofs.Common.{◌≡◌, ℕ, ◌+◌, ◌*◌, ◌<◌, ◌≤◌, List, ◌++◌, length, take, drop, replicate, refl, sym, ap, ◌∙◌, arith}
+use Rattle.std.proofs.Common.{◌≡◌, ℕ, ◌+◌, ◌*◌, ◌<◌, ◌≤◌, List, ◌++◌, length, take, replicate, refl, sym, ap, ◌∙◌, arith}
 use Rattle.std.specs.Prelude.{true}
 use Rattle.std.specs.List.{concat}
 use Rattle.std.specs.Simd.{first_chunks}
-use Rattle.std.proofs.lemmas.List.{same_lists, take_all, take-take, take-append-le, take-replicate, length-replicate, replicate-append-replicate}
+use Rattle.std.proofs.lemmas.List.{same_lists, take_all, take-append-le, take-replicate, length-replicate, replicate-append-replicate}
 use Rattle.uda_mem.proofs.PutLaws.{put-nil, put-part, put-put_next, length-part-le}
 use Rattle.uda_packet.specs.declared.end.Kind.TheVariants.{Erase, Read, Write}
 use Rattle.uda_image.specs.AtOnce.{ReadsBlocks, WritesBlocks, ChecksBlocks}
@@ -15,13 +15,8 @@ use Rattle.uda_exec.proofs.Words.{put, part, Transfer, StoreState, KeepsAttribut
 use Rattle.uda_exec.proofs.Calls.{go_none, go_more}
 use Rattle.uda_exec.proofs.Changes.{changes_by_put}
 use Rattle.uda_exec.proofs.Steps.{progress_none}
-use Rattle.uda_exec.proofs.Blocks.{AreBlocks-part, length-concat_blocks, part-part, bytes_at-within}
+use Rattle.uda_exec.proofs.Blocks.{take-part, AreBlocks-part, length-concat_blocks, part-part, bytes_at-within}
 use Rattle.uda_image.specs.Store.{is_sound}
-
--- the front of a part
-take-part : {A : Type 0} (xs : List A) (at n m : ℕ) → m ≤ n → take m (part xs at n) ≡ part xs at m
-unfolding part
-take-part xs at n m h = take-take m n (drop at xs) h
 
 -- no byte past the chunks counts
 chunks-front : (count : ℕ) (bytes : List ℕ) → first_chunks 512 count (take (512 * count) bytes)

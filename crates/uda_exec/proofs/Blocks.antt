@@ -1,9 +1,10 @@
 -- The blocks of a range of bytes, and the bytes of a range of blocks.
-use Rattle.std.proofs.Common.{◌≡◌, ℕ, zero, suc, ◌+◌, ◌-◌, ◌*◌, ◌<◌, ◌≤◌, List, [], ◌∷◌, ◌++◌, length, get_or, take, drop, replicate, sym, ap, ◌∙◌, arith, append-nil, length-append, length-drop}
+use Rattle.std.proofs.Common.{◌≡◌, ℕ, inl, inr, zero, suc, ◌+◌, ◌-◌, ◌*◌, ◌<◌, ◌≤◌, List, [], ◌∷◌, ◌++◌, length, get_or, take, drop, replicate, sym, ap, ◌∙◌, arith, append-nil, length-append, length-drop}
 use Rattle.std.specs.List.{concat}
 use Rattle.std.specs.Prelude.{All}
 use Rattle.std.proofs.lemmas.List.Elements.{All-nil, All-head, All-tail, All-take, All-drop}
-use Rattle.std.proofs.lemmas.List.{same_lists, take_at, take-take, take-append-le, length-replicate, length-take-le}
+use Rattle.std.proofs.lemmas.Bool.{cases_lt}
+use Rattle.std.proofs.lemmas.List.{take_all, same_lists, take-take, take-append-le, length-replicate, length-take-le}
 use Rattle.uda_mem.specs.Put.{part, put}
 use Rattle.uda_mem.proofs.PutLaws.{length-part, length-part-le, get_or-part, put-part}
 use Rattle.uda_image.specs.StoreLaws.{All-first_chunks}
@@ -20,13 +21,10 @@ first_block-whole memory at n h room =
     take-append-le 512 (take n (drop at memory)) (replicate 512 0) (omega (arith, size))
     ∙ take-take 512 n (drop at memory) h
 
--- what is in memory is the front of some block
-pub keeps_front : (memory : List ℕ) (at n : ℕ) → at + n ≤ length memory
-    → memory ≡ put memory at (take n (part memory at n ++ replicate (512 - n) 0))
-keeps_front memory at n room =
-    sym (ap (λ (b : List ℕ). put memory at b)
-    (take_at (part memory at n) (replicate (512 - n) 0) n (length-part-le memory at n room))
-    ∙ put-part memory at n)
+-- the front of a part
+pub take-part : {A : Type 0} (xs : List A) (at n m : ℕ) → m ≤ n → take m (part xs at n) ≡ part xs at m
+unfolding part
+take-part xs at n m h = take-take m n (drop at xs) h
 
 -- a part of a part
 pub part-part : {A : Type 0} (xs : List A) (at n i m : ℕ) → i + m ≤ n → part (part xs at n) i m
@@ -82,3 +80,16 @@ bytes_at-within memory at n room =
     let there : List ℕ = part memory at n in
     let none : n - length there ≡ 0 = omega (arith, length-part-le memory at n room) in
     ap (λ (k : ℕ). there ++ replicate k 0) none ∙ append-nil there
+
+-- no change: the first bytes of a block are those that are there
+pub put_back : (memory : List ℕ) (at m : ℕ) → at + m ≤ length memory
+    → put memory at (take m (bytes_at memory at 512)) ≡ memory
+put_back memory at m room =
+    let there : List ℕ = part memory at 512 in
+    let size = length-part memory at 512 in
+    elim (cases_lt 512 m) [
+      | inl more ↦ ap (λ (b : List ℕ). put memory at (take m b)) (bytes_at-within memory at 512 (omega arith))
+          ∙ ap (put memory at) (take_all m there (omega (arith, size))) ∙ put-part memory at 512
+      | inr few ↦ ap (put memory at) (take-append-le m there _ (omega (arith, size)) ∙ take-part memory at 512 m few)
+          ∙ put-part memory at m
+    ]

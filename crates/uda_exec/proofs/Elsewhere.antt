@@ -1,23 +1,23 @@
 -- A command over another memory of the same length, which has the same bytes where the command reads: it ends the same, it
 -- changes the same units, and the bytes that its end message counts are the same there. The rest of a Read's buffer is left.
-use Rattle.std.proofs.Common.{◌≡◌, ℕ, ◌+◌, ◌-◌, ◌*◌, ◌<◌, ◌≤◌, min, inl, inr, Bool, true, false, List, [], ◌∷◌, ◌++◌, length, get_or, take, replicate, zero-le, Option, Some, None, refl, sym, ap, ap₂, subst, ◌∙◌, arith, length-take, length-append, append-nil}
-use Rattle.std.specs.Prelude.{slice_get, slice_index, nat_lt, ◌&&◌, IfSome, option_map, if◌then◌else◌}
+use Rattle.std.proofs.Common.{◌≡◌, ℕ, ◌+◌, ◌-◌, ◌*◌, ◌<◌, ◌≤◌, min, inl, inr, Bool, true, false, List, [], ◌∷◌, ◌++◌, length, take, Option, Some, None, refl, sym, ap, subst, ◌∙◌, arith, length-take, append-nil}
+use Rattle.std.specs.Prelude.{slice_get, slice_index, nat_lt, ◌&&◌, option_map}
 use Rattle.std.specs.Option.{option_map_or}
 use Rattle.std.specs.List.{concat}
 use Rattle.std.proofs.lemmas.Bool.{cases_lt}
 use Rattle.std.proofs.lemmas.Bool.Decides.{nat_tests}
-use Rattle.std.proofs.lemmas.List.{same_lists, get_or_append_left, get_or-append_right, get_or-take, length-take-le}
+use Rattle.std.proofs.lemmas.List.{length-take-le}
 use Rattle.std.proofs.lemmas.List.Folds.{concat-append}
 use Rattle.std.proofs.lemmas.Option.{slice_get-map}
 use Rattle.std.proofs.Math.Seq.{take-append-add}
-use Rattle.uda_mem.proofs.PutLaws.{length-part, length-part-le, length-put, get_or-part, get_or-put_before, get_or-put_at, get_or-put_behind, put-nil}
+use Rattle.uda_mem.proofs.PutLaws.{put-put_next, put-put_before, part-put_apart, part-put_at, length-part, length-part-le, get_or-part, put-nil}
 use Rattle.uda_packet.specs.declared.command.Op.TheVariants as op
 use Rattle.uda_packet.specs.declared.end.Kind.TheVariants as kind
 use Rattle.uda_packet.specs.declared.guest_command.GuestOp.{GuestOp}
 use Rattle.uda_packet.specs.declared.guest_command.GuestOp.TheVariants as guest
 use Rattle.uda_packet.specs.declared.reply.Reply.{Reply}
 use Rattle.uda_disk.specs.Request as ask
-use Rattle.uda_disk.specs.Units.{Units, failing_call_at, failures_at, is_sound_at}
+use Rattle.uda_disk.specs.Units.{Units, failing_call_at, is_sound_at}
 use Rattle.uda_exec.specs.Commands.{memory_read_length}
 use Rattle.uda_exec.specs.Execution.{CallsStore, TakesEffect, HasWholeStore, blocks_called}
 use Rattle.uda_exec.specs.GuestExecution.{ExecutesAs}
@@ -25,42 +25,12 @@ use Rattle.uda_exec.specs.BufferUse.{read_length, changed_length, moved_length, 
 use Rattle.uda_exec.specs.Compare.{compared_by, compared, byte_held, IsVerdict, FitsTransfer, ComparesBlocks, ComparesSlot, ComparesUnit}
 use Rattle.uda_exec.specs.declared.compare.Verdict.{Verdict}
 use Rattle.uda_exec.specs.declared.compare.Verdict.TheVariants as verdict
-use Rattle.uda_exec.proofs.Words.{put, part, Op, Transfer, transfer_of, End, Act, Command, Refusal, Disk, Disks, UnitState, disk_of, CheckResult, Rejected, Accepted, check_by, check_at, check_with, with_buffer_checks, refusal_on, extent_of, is_odd, is_missing, TransferOutcome, Done, Lost, is_lost, IsWithinRange, transfer_status, transfer_bytes, due, blocks_moved, World, data_read, bytes_on, bytes_at, bytes_of, answer_on, end_for, reply, plain_body, blocks_for, disks_by, HasWholeBlocks, buffer_start, memory_write_length, act_of, passes_checks, passes_checks_by, is_accepted, check_of, check_in, does, effect_by, effect, disks_of, world_of, Executes, ChangesAt, FailureFits, blocks_asked, transfer_refusal}
-use Rattle.uda_exec.proofs.Blocks.{AreBlocks, AreBlocks-part, AreBlocks-take, length-bytes_at, length-concat_blocks}
+use Rattle.uda_exec.proofs.Words.{put, part, Op, Transfer, transfer_of, End, Act, Command, Refusal, Disk, UnitState, disk_of, CheckResult, Rejected, Accepted, check_by, check_at, check_with, with_buffer_checks, refusal_on, extent_of, is_odd, is_missing, TransferOutcome, Done, Lost, is_lost, IsWithinRange, transfer_status, transfer_bytes, due, blocks_moved, World, bytes_on, bytes_at, bytes_of, answer_on, end_for, reply, plain_body, blocks_for, HasWholeBlocks, buffer_start, memory_write_length, act_of, passes_checks, passes_checks_by, is_accepted, check_of, check_in, does, effect_by, effect, disks_of, world_of, Executes, ChangesAt, FailureFits, blocks_asked, transfer_refusal}
+use Rattle.uda_exec.proofs.Blocks.{AreBlocks, AreBlocks-part, AreBlocks-take, length-bytes_at, length-concat_blocks, put_back}
 use Rattle.uda_exec.proofs.Changes.{changes_by_put, changes_nothing}
+use Rattle.uda_exec.proofs.Requests.{asks, act_shared}
 use Rattle.uda_exec.proofs.Transferred.{Passes, passes_if, end-asks, moved-lost, told_there}
 use Rattle.uda_exec.proofs.Units.{sound_if_faithful}
-
--- the action of a command depends only on the bytes that it reads
-act_shared : (o : Op) (memory other : List ℕ)
-    → part other (buffer_start o) (memory_read_length o) ≡ part memory (buffer_start o) (memory_read_length o)
-    → act_of o other ≡ act_of o memory
-act_shared (op.Write bytes address lbn) memory other h = rw h refl
-act_shared op.Controller memory other h = refl
-act_shared op.Status memory other h = refl
-act_shared op.Available memory other h = refl
-act_shared (op.Online soft) memory other h = refl
-act_shared (op.Access bytes lbn) memory other h = refl
-act_shared (op.Read bytes address lbn) memory other h = refl
-act_shared (op.Erase bytes lbn) memory other h = refl
-
--- it brings no more bytes than the command may change
-record Brings (o : Op) (act : Act) : Type 0 where
-  brings : (blocks : List (List ℕ)) → length (data_read act blocks) ≤ memory_write_length o
-
-brings_if : (o : Op) (memory : List ℕ) → IfSome (act_of o memory) (Brings o)
-brings_if op.Controller memory = tt
-brings_if (op.Read bytes address lbn) memory =
-    record { brings = λ blocks. omega (arith, length-take bytes (concat blocks)) }
-brings_if (op.Write bytes address lbn) memory = record { brings = λ blocks. zero-le }
-brings_if op.Status memory = record { brings = λ blocks. zero-le }
-brings_if op.Available memory = record { brings = λ blocks. zero-le }
-brings_if (op.Online soft) memory = record { brings = λ blocks. zero-le }
-brings_if (op.Access bytes lbn) memory = record { brings = λ blocks. zero-le }
-brings_if (op.Erase bytes lbn) memory = record { brings = λ blocks. zero-le }
-
-brings_of : (o : Op) (memory : List ℕ) (act : Act) → act_of o memory ≡ Some act → Brings o act
-brings_of o memory act is = subst (λ (a : Option Act). IfSome a (Brings o)) is (brings_if o memory)
 
 part_none : (xs : List ℕ) (at n : ℕ) → n ≡ 0 → part xs at n ≡ []
 unfolding part
@@ -74,11 +44,9 @@ put_empty : (other : List ℕ) (at : ℕ) (bytes : List ℕ) → length bytes �
 put_empty other at [] few = put-nil other at
 put_empty other at (b ∷ bs) few = absurd (omega arith)
 
-abbrev make_world : List ℕ → Disks → World
-make_world m d = record { memory = m; disks = d }
-
-abbrev make_pair : End → World → End × World
-make_pair a b = (a, b)
+-- the same result with another memory
+abbrev with_memory : List ℕ → End × World → End × World
+with_memory memory r = (r.0, record { memory = memory; disks = r.1.disks })
 
 -- ---- any command, and one that changes no memory
 
@@ -89,11 +57,13 @@ module _ (c : Command) (units units_after : Units) (memory other left : List ℕ
   asks_same : act_of c.op other ≡ act_of c.op memory
   asks_same = act_shared c.op memory other shared
 
+  check_same : (act : Act) → check_of c act (world_of units other) ≡ check_of c act (world_of units memory)
+  check_same act = ap (λ l. check_in c.op act l (slice_get (disks_of units) c.unit)) same
+
   passes_by_same : (asked : Option Act)
       → passes_checks_by c asked (world_of units other) ≡ passes_checks_by c asked (world_of units memory)
   passes_by_same None = refl
-  passes_by_same (Some act) =
-      ap (λ l. is_accepted (check_in c.op act l (slice_get (disks_of units) c.unit))) same
+  passes_by_same (Some act) = ap is_accepted (check_same act)
 
   passes_same : passes_checks c (world_of units other) ≡ passes_checks c (world_of units memory)
   passes_same =
@@ -112,14 +82,10 @@ module _ (c : Command) (units units_after : Units) (memory other left : List ℕ
         → TakesEffect c units other e units_after there
     takes_effect_there outcome_there t fits is lost calls done = record {
       outcome = outcome_there t.outcome;
-      fits = subst (FailureFits (outcome_there t.outcome) (blocks_asked c.op)) (sym passes_same) fits;
+      fits = rw passes_same fits;
       effect_is = is;
-      failures_are = t.failures_are
-          ∙ ap (λ (a : Bool). failures_at (slice_get units c.unit) + (if a then 1 else 0)) (sym lost);
-      calls =
-          subst (λ (a : Bool). CallsStore (outcome_there t.outcome) (blocks_called c a)
-          (failing_call_at (slice_get units c.unit)) (failing_call_at (slice_get units_after c.unit)))
-          (sym passes_same) calls;
+      failures_are = rw lost t.failures_are;
+      calls = rw passes_same calls;
       infallible = λ never. done (t.infallible never);
     }
 
@@ -133,7 +99,7 @@ module _ (c : Command) (units units_after : Units) (memory other left : List ℕ
     executes_there changes kept takes x =
         let calls_there : nat_lt 0 (blocks_asked c.op) && passes_checks c (world_of units memory) ≡ true
         → nat_lt 0 (blocks_asked c.op) && passes_checks c (world_of units other) ≡ true = λ calls.
-        ap (λ (a : Bool). nat_lt 0 (blocks_asked c.op) && a) passes_same ∙ calls in
+        rw passes_same calls in
         record {
           answers = x.answers;
           memory_stays = changes;
@@ -141,15 +107,12 @@ module _ (c : Command) (units units_after : Units) (memory other left : List ℕ
           others_stay = x.others_stay;
           all_attributes_stay = x.all_attributes_stay;
           modes_stay = x.modes_stay;
-          by_checks = record {
-            idle = λ idle. x.by_checks.idle (sym passes_same ∙ idle);
-            ends = λ transfers acting. x.by_checks.ends transfers (sym passes_same ∙ acting);
-          };
+          by_checks = rw passes_same x.by_checks;
           takes_effect = λ faithful.
               takes (λ calls. sound_if_faithful (slice_get units c.unit) (faithful (calls_there calls)))
               (x.takes_effect (λ calls. faithful (calls_there calls)));
           sound_before = x.sound_before;
-          whole_before = λ acting. x.whole_before (sym passes_same ∙ acting);
+          whole_before = rw passes_same x.whole_before;
           well_formed_if_sound = x.well_formed_if_sound;
           takes_effect_if_sound = λ sound.
               takes (λ calls. x.sound_before c.unit (sound (calls_there calls)))
@@ -157,109 +120,39 @@ module _ (c : Command) (units units_after : Units) (memory other left : List ℕ
         }
 
   module _ (keeps : memory_write_length c.op ≡ 0) where
-    by_check : (o : TransferOutcome) (act : Act) (b : CheckResult) → Brings c.op act
-        → (e, world_of units_after left) ≡ does o c act b (world_of units memory)
-        → (e, world_of units_after other) ≡ does o c act b (world_of units other)
-    by_check o act (Rejected refusal) brings is =
-        ap₂ make_pair (ap (λ (r : End × World). r.0) is)
-        (ap (make_world other) (ap (λ (r : End × World). r.1.disks) is))
-    by_check o act (Accepted disk) brings is =
-        let few : length (bytes_on o act disk) ≤ 0 =
-        omega (arith, brings.brings (blocks_moved o (due act disk.blocks)), keeps) in
-        ap₂ make_pair (ap (λ (r : End × World). r.0) is)
-        (ap₂ make_world (sym (put_empty other (buffer_start c.op) (bytes_on o act disk) few))
-        (ap (λ (r : End × World). r.1.disks) is))
-
-    by_asked : (o : TransferOutcome) (asked : Option Act) → act_of c.op memory ≡ asked
-        → (e, world_of units_after left) ≡ effect_by o c asked (world_of units memory)
-        → (e, world_of units_after other) ≡ effect_by o c asked (world_of units other)
-    by_asked o None asks is =
-        ap₂ make_pair (ap (λ (r : End × World). r.0) is)
-        (ap (make_world other) (ap (λ (r : End × World). r.1.disks) is))
-    by_asked o (Some act) asks is =
-        let check_same : check_of c act (world_of units other) ≡ check_of c act (world_of units memory) =
-        ap (λ l. check_in c.op act l (slice_get (disks_of units) c.unit)) same in
-        by_check o act (check_of c act (world_of units memory)) (brings_of c.op memory act asks) is
-        ∙ sym (ap (λ (b : CheckResult). does o c act b (world_of units other)) check_same)
-
-    effect_there : (o : TransferOutcome)
-        → (e, world_of units_after left) ≡ effect o c (world_of units memory)
-        → (e, world_of units_after other) ≡ effect o c (world_of units other)
-    effect_there o is =
-        by_asked o (act_of c.op memory) refl is
-        ∙ sym (ap (λ (a : Option Act). effect_by o c a (world_of units other)) asks_same)
+    effect_by_same : (o : TransferOutcome) (asked : Option Act) → act_of c.op memory ≡ asked
+        → with_memory other (effect_by o c asked (world_of units memory)) ≡ effect_by o c asked (world_of units other)
+    effect_by_same o None is = refl
+    effect_by_same o (Some act) is =
+        by_check (check_of c act (world_of units memory))
+        ∙ sym (ap (λ (b : CheckResult). does o c act b (world_of units other)) (check_same act))
+      where
+        by_check : (b : CheckResult) → with_memory other (does o c act b (world_of units memory))
+            ≡ does o c act b (world_of units other)
+        by_check (Rejected refusal) = refl
+        by_check (Accepted disk) =
+            let few : length (bytes_on o act disk) ≤ 0 =
+            omega (arith, (asks c.op memory act is).brings (blocks_moved o (due act disk.blocks)), keeps) in
+            ap (λ (m : List ℕ). with_memory m (does o c act (Accepted disk) (world_of units memory)))
+            (sym (put_empty other (buffer_start c.op) (bytes_on o act disk) few))
 
     executes_unread : Executes c units memory e units_after left → Executes c units other e units_after other
     executes_unread =
         executes_there other (changes_nothing other (buffer_start c.op) (memory_write_length c.op)) (λ none. refl)
-        (λ sound t. takes_effect_there other (λ o. o) t t.fits (effect_there t.outcome t.effect_is) refl t.calls
-        (λ done. done))
+        (λ sound t. takes_effect_there other (λ o. o) t t.fits
+        (ap (with_memory other) t.effect_is ∙ effect_by_same t.outcome (act_of c.op memory) refl
+        ∙ sym (ap (λ (a : Option Act). effect_by t.outcome c a (world_of units other)) asks_same))
+        refl t.calls (λ done. done))
 
 -- ---- a Read
 
--- the first of the bytes that were written at an address, and are carried
-carried_first : (xs ys : List ℕ) (at : ℕ) (first rest : List ℕ) → length ys ≡ length xs
-    → put ys at (part (put xs at (first ++ rest)) at (length first)) ≡ put ys at first
-carried_first xs ys at first rest same =
-    let new = put xs at (first ++ rest) in
-    let size = length-part new at (length first) in let stays = length-put xs at (first ++ rest) in
-    let both = length-append first rest in
-    same_lists _ _ (length-put ys at (part new at (length first)) ∙ sym (length-put ys at first)) (λ k d below.
-    let within : k < length ys = omega (arith, length-put ys at (part new at (length first))) in
-    let within' : k < length xs = omega arith in
-    elim (cases_lt k at) [
-      | inl low ↦ get_or-put_before ys at (part new at (length first)) k d within low
-          ∙ sym (get_or-put_before ys at first k d within low)
-      | inr from ↦ elim (cases_lt k (at + length first)) [
-        | inl to ↦ get_or-put_at ys at (part new at (length first)) k d within from (omega arith)
-            ∙ get_or-part new at (length first) (k - at) d (omega arith) ∙ ap (λ i. get_or new i d) (omega arith)
-            ∙ get_or-put_at xs at (first ++ rest) k d within' from (omega arith)
-            ∙ get_or_append_left first rest d (k - at) (omega arith)
-            ∙ sym (get_or-put_at ys at first k d within from to)
-        | inr past ↦ get_or-put_behind ys at (part new at (length first)) k d within (omega arith)
-            ∙ sym (get_or-put_behind ys at first k d within past)
-      ]
-    ])
-
--- bytes that a memory has already
-put_own : (ys : List ℕ) (at : ℕ) (first rest : List ℕ)
-    → ((i d : ℕ) → i < length rest → at + length first + i < length ys
-    → get_or rest i d ≡ get_or ys (at + length first + i) d)
-    → put ys at (first ++ rest) ≡ put ys at first
-put_own ys at first rest own =
-    let both = length-append first rest in
-    same_lists _ _ (length-put ys at (first ++ rest) ∙ sym (length-put ys at first)) (λ k d below.
-    let within : k < length ys = omega (arith, length-put ys at (first ++ rest)) in
-    elim (cases_lt k at) [
-      | inl low ↦ get_or-put_before ys at (first ++ rest) k d within low
-          ∙ sym (get_or-put_before ys at first k d within low)
-      | inr from ↦ elim (cases_lt k (at + length first)) [
-        | inl to ↦ get_or-put_at ys at (first ++ rest) k d within from (omega arith)
-            ∙ get_or_append_left first rest d (k - at) (omega arith)
-            ∙ sym (get_or-put_at ys at first k d within from to)
-        | inr past ↦ elim (cases_lt k (at + length (first ++ rest))) [
-          | inl to ↦ get_or-put_at ys at (first ++ rest) k d within from to
-              ∙ get_or-append_right first rest (length first) (k - at) d refl (omega arith)
-              ∙ own (k - at - length first) d (omega arith) (omega arith)
-              ∙ ap (λ i. get_or ys i d) (omega arith)
-              ∙ sym (get_or-put_behind ys at first k d within past)
-          | inr high ↦ get_or-put_behind ys at (first ++ rest) k d within high
-              ∙ sym (get_or-put_behind ys at first k d within past)
-        ]
-      ]
-    ])
-
--- the first bytes of what a memory has at an address, with zeros past its end
-own_bytes : (ys : List ℕ) (at n m i d : ℕ) → i < length (take m (bytes_at ys at n)) → at + i < length ys
-    → get_or (take m (bytes_at ys at n)) i d ≡ get_or ys (at + i) d
-own_bytes ys at n m i d below within =
-    let size = length-take m (bytes_at ys at n) in
-    let long = length-bytes_at ys at n in
-    let there = length-part ys at n in
-    get_or-take m (bytes_at ys at n) i d (omega (arith, size))
-    ∙ get_or_append_left (part ys at n) (replicate (n - length (part ys at n)) 0) d i
-    (omega (arith, size, long, there))
-    ∙ get_or-part ys at n i d (omega (arith, size, long))
+-- the first of the bytes that were written at an address
+first_written : (xs : List ℕ) (at : ℕ) (first rest : List ℕ) → at + length first ≤ length xs
+    → part (put xs at (first ++ rest)) at (length first) ≡ first
+first_written xs at first rest room =
+    ap (λ (m : List ℕ). part m at (length first)) (sym (put-put_next xs at first rest (at + length first) refl))
+    ∙ part-put_apart (put xs at first) (at + length first) rest at (length first) (λ meet. omega arith)
+    ∙ part-put_at xs at (length first) first room refl
 
 -- an accepted command acts on the disk of its unit, and passes all checks
 record IsAccepted (odd missing : Bool) (act : Act) (slot : Option (Option Disk)) (disk : Disk) : Type 0 where
@@ -382,10 +275,9 @@ module _ (reference unit bytes address lbn : ℕ) (units units_after : Units) (m
         ap (λ (r : End × World). r.1.memory) is ∙ ap (put memory address) brought in
         let ends : bytes_of e.body ≡ transfer_bytes o bytes =
         ap (λ (r : End × World). bytes_of r.0.body) is ∙ ap (λ (x : End). bytes_of x.body) (sym (end_is o f)) in
-        ap (λ (n : ℕ). put other address (part left address (min bytes n))) ends
-        ∙ ap (λ (n : ℕ). put other address (part left address n)) counted
+        ap (λ (n : ℕ). put other address (part left address n)) (ap (min bytes) ends ∙ counted)
         ∙ ap (λ (m : List ℕ). put other address (part m address (length first))) wrote
-        ∙ carried_first memory other address first rest same
+        ∙ ap (put other address) (first_written memory address first rest (omega (arith, passes.in_memory, counted)))
 
     carries : (o : TransferOutcome) → IsWithinRange count o
         → (e, world_of units_after left) ≡ does o read act (Accepted disk) (world_of units memory)
@@ -395,28 +287,32 @@ module _ (reference unit bytes address lbn : ℕ) (units units_after : Units) (m
         carries_first Done (bytes_on Done act disk) [] f is (sym (append-nil (bytes_on Done act disk)))
         (omega (arith, all, length-take bytes (concat due_blocks)))
     carries (Lost k block) f is =
-        let own : List ℕ = bytes_at other (address + 512 * k) 512 in
+        let first = first_blocks k in
         let long = first_long k f.0 in
-        let at : (i : ℕ) → address + length (first_blocks k) + i ≡ address + 512 * k + i = λ i. omega (arith, long) in
-        carries_first (Lost k block) (first_blocks k) (take (bytes - 512 * k) block) f is (brings_lost k block f.0)
+        let own : List ℕ = bytes_at other (address + 512 * k) 512 in
+        let rest : List ℕ = take (bytes - 512 * k) own in
+        carries_first (Lost k block) first (take (bytes - 512 * k) block) f is (brings_lost k block f.0)
         (omega (arith, long, f.0))
-        ∙ sym (put_own other address (first_blocks k) (take (bytes - 512 * k) own) (λ i d below within.
-        own_bytes other (address + 512 * k) 512 (bytes - 512 * k) i d below (omega (arith, long, within))
-        ∙ ap (λ n. get_or other n d) (sym (at i))))
-        ∙ sym (ap (put other address) (brings_lost k own f.0))
+        ∙ sym (ap (put other address) (brings_lost k own f.0)
+        ∙ sym (put-put_before other address first rest (address + 512 * k) (omega (arith, long)))
+        ∙ ap (λ (m : List ℕ). put m address first)
+        (put_back other (address + 512 * k) (bytes - 512 * k) (omega (arith, passes.in_memory, f.0))))
 
     effect_on : (o : TransferOutcome) → IsWithinRange count o
         → (e, world_of units_after left) ≡ does o read act (Accepted disk) (world_of units memory)
         → (e, world_of units_after left_there)
         ≡ does (outcome_there o) read act (Accepted disk) (world_of units other)
     effect_on o f is =
-        ap₂ make_pair (ap (λ (r : End × World). r.0) is ∙ ends_same o f)
-        (ap₂ make_world (carries o f is) (ap (λ (r : End × World). r.1.disks) is ∙ disks_same o))
+        ap (with_memory left_there) is ∙ ap (λ (m : List ℕ). with_memory m (does o read act (Accepted disk) (world_of units other)))
+        (carries o f is) ∙ same_effect o f
       where
-        disks_same : (o : TransferOutcome) → disks_by o (record { unit = unit; act = act }) (Accepted disk) (disks_of units)
-            ≡ disks_by (outcome_there o) (record { unit = unit; act = act }) (Accepted disk) (disks_of units)
-        disks_same Done = refl
-        disks_same (Lost k block) = refl
+        same_effect : (o : TransferOutcome) → IsWithinRange count o
+            → with_memory (put other address (bytes_on (outcome_there o) act disk)) (does o read act (Accepted disk) (world_of units other))
+            ≡ does (outcome_there o) read act (Accepted disk) (world_of units other)
+        same_effect Done f = refl
+        same_effect (Lost k block) f =
+            ap (λ (x : End). (x, (does (outcome_there (Lost k block)) read act (Accepted disk) (world_of units other)).1))
+            (ends_same (Lost k block) f)
 
   -- a rejected Read moves nothing
   rejected : (o : TransferOutcome) (refusal : Refusal)
@@ -424,9 +320,8 @@ module _ (reference unit bytes address lbn : ℕ) (units units_after : Units) (m
       → (e, world_of units_after left_there) ≡ does (outcome_there o) read act (Rejected refusal) (world_of units other)
   rejected o refusal is =
       let none : bytes_of e.body ≡ 0 = ap (λ (r : End × World). bytes_of r.0.body) is in
-      ap₂ make_pair (ap (λ (r : End × World). r.0) is)
-      (ap₂ make_world (put_none other left address (min bytes (bytes_of e.body)) (omega (arith, none)))
-      (ap (λ (r : End × World). r.1.disks) is))
+      ap (with_memory left_there) is ∙ ap (λ (m : List ℕ). with_memory m (does o read act (Rejected refusal) (world_of units memory)))
+      (put_none other left address (min bytes (bytes_of e.body)) (omega (arith, none)))
 
   abbrev passing : Bool
   passing = passes_checks read (world_of units memory)
@@ -492,29 +387,15 @@ module _ (units units_after : Units) (memory other left : List ℕ) (e : End) (s
   abbrev there_by : Op → List ℕ
   there_by o = put other (buffer_start o) (part left (buffer_start o) (min (memory_write_length o) (bytes_of e.body)))
 
-  keeps : (o : Op) (reference unit : ℕ) → memory_write_length o ≡ 0
-      → part other (buffer_start o) (memory_read_length o) ≡ part memory (buffer_start o) (memory_read_length o)
-      → Executes (make reference unit o) units memory e units_after left
-      → Executes (make reference unit o) units other e units_after (there_by o)
-  keeps o reference unit none shared x =
-      subst (λ (m : List ℕ). Executes (make reference unit o) units other e units_after m)
-      (sym (put_none other left (buffer_start o) (min (memory_write_length o) (bytes_of e.body)) (omega (arith, none))))
-      (executes_unread (make reference unit o) units units_after memory other left e same shared none x)
-
   executes_by : (o : Op) (reference unit : ℕ)
       → part other (buffer_start o) (memory_read_length o) ≡ part memory (buffer_start o) (memory_read_length o)
       → Executes (make reference unit o) units memory e units_after left
       → Executes (make reference unit o) units other e units_after (there_by o)
   executes_by (op.Read bytes address lbn) reference unit shared x =
       executes_read reference unit bytes address lbn units units_after memory other left e same x
-  executes_by op.Controller reference unit shared x = keeps op.Controller reference unit refl shared x
-  executes_by (op.Write bytes address lbn) reference unit shared x =
-      keeps (op.Write bytes address lbn) reference unit refl shared x
-  executes_by op.Status reference unit shared x = keeps op.Status reference unit refl shared x
-  executes_by op.Available reference unit shared x = keeps op.Available reference unit refl shared x
-  executes_by (op.Online soft) reference unit shared x = keeps (op.Online soft) reference unit refl shared x
-  executes_by (op.Access bytes lbn) reference unit shared x = keeps (op.Access bytes lbn) reference unit refl shared x
-  executes_by (op.Erase bytes lbn) reference unit shared x = keeps (op.Erase bytes lbn) reference unit refl shared x
+  executes_by o reference unit shared x =
+      rw (put_none other left (buffer_start o) (min (memory_write_length o) (bytes_of e.body)) (omega arith))
+      (executes_unread (make reference unit o) units units_after memory other left e same shared refl x)
 
 -- ---- a comparison
 

@@ -34,11 +34,11 @@ use Rattle.uda_exec.specs.Laws.{OnlyUsedBlocksChange}
 use Rattle.uda_exec.specs.SetUnit.{unit_set}
 use Rattle.uda_exec.specs.BlockChanges.{use_on, are_written, LeavesUnit, ChangesUnit, ChangesOnly}
 use Rattle.uda_exec.proofs.Blocks.{AreBlocks-in_blocks}
-use Rattle.uda_exec.proofs.Steps.{length-due_le}
+use Rattle.uda_exec.proofs.Steps.{length-due_by, nothing_if}
 use Rattle.uda_exec.proofs.Written.{length-written}
 use Rattle.uda_exec.proofs.Transferred.{Passes, passes_if, check_on-by, extent-asks, free-still}
 use Rattle.uda_exec.proofs.Units.{map-set_same, slot_in}
-use Rattle.uda_exec.proofs.Words.{put, Command, Op, Kind, Transfer, transfer_of, changes_blocks, Refusal, Disk, Act, in_blocks, extent_of, lbn_of, blocks_due, blocks_stored, UnitState, disk_of, disks_of, block_count, transfer_buffer_length, blocks_asked, bytes_at, asks_by, act_of, due, blocks_moved, blocks_written, disk_after, is_lost, is_accepted, CheckResult, Accepted, check_by, first_failed_check, check_on, check_in, extent_in, transfer_refusal, TransferOutcome, Done, Lost, IsWithinRange, World, does, effect_by, effect, passes_checks_by, passes_checks, world_of, End, Executes}
+use Rattle.uda_exec.proofs.Words.{put, Command, Op, Kind, Transfer, transfer_of, changes_blocks, Refusal, Disk, Act, in_blocks, extent_of, lbn_of, blocks_due, UnitState, disk_of, disks_of, block_count, transfer_buffer_length, blocks_asked, bytes_at, asks_by, act_of, due, blocks_moved, blocks_written, disk_after, is_lost, is_accepted, CheckResult, Accepted, check_by, first_failed_check, check_on, check_in, extent_in, transfer_refusal, TransferOutcome, Done, Lost, IsWithinRange, World, does, effect_by, effect, passes_checks_by, passes_checks, world_of, End, Executes}
 
 -- ---- the unit of a list
 
@@ -115,18 +115,11 @@ no_blocks_left : (blocks : List (List ℕ)) → length blocks ≤ 0 → blocks �
 no_blocks_left [] none = refl
 no_blocks_left (b ∷ rest) none = absurd (omega (arith, none))
 
-stored_none : (t : Transfer) → blocks_stored t [] ≡ []
-stored_none t = by_kind (changes_blocks t.kind)
-  where
-    by_kind : (changes : Bool) → if◌then◌else◌ {A = List (List ℕ)} changes [] [] ≡ []
-    by_kind true = refl
-    by_kind false = refl
-
 no_bytes : (t : Transfer) (memory : List ℕ) → block_count t ≡ 0 → bytes_written (Some t) memory ≡ []
 no_bytes t memory few =
     let due_none : blocks_due t [] memory ≡ [] =
-    no_blocks_left (blocks_due t [] memory) (omega (arith, length-due_le t [] memory t.kind, few)) in
-    ap (λ (b : List (List ℕ)). concat (blocks_stored t b)) due_none ∙ ap concat (stored_none t)
+    no_blocks_left (blocks_due t [] memory) (omega (arith, length-due_by t [] memory (λ some. absurd (omega arith)) t.kind, few)) in
+    ap concat (nothing_if (changes_blocks t.kind) (blocks_due t [] memory) due_none)
 
 -- a transfer that passes its checks is on its unit, and has as many bytes to write as its blocks have
 kind_writes : (kind : Kind) → changes_blocks kind ≡ are_written (access_by kind)

@@ -2,7 +2,10 @@
 use Rattle.std.proofs.Common.{◌≡◌, ℕ, inl, inr, zero, suc, ◌+◌, ◌-◌, ◌*◌, ◌<◌, ◌≤◌, List, [], ◌∷◌, ◌++◌, length, get_or, take, drop, replicate, sym, ap, ◌∙◌, arith, append-nil, length-append, length-drop}
 use Rattle.std.specs.List.{concat}
 use Rattle.std.specs.Prelude.{All}
-use Rattle.std.proofs.lemmas.List.Elements.{All-nil, All-head, All-tail, All-take, All-drop}
+use Rattle.std.proofs.Math.Seq.{take-append-add}
+use Rattle.std.proofs.lemmas.List.Folds.{concat-append}
+use Rattle.uda_disk.proofs.Callers.{length-concat}
+use Rattle.std.proofs.lemmas.List.Elements.{All-nil, All-take, All-drop}
 use Rattle.std.proofs.lemmas.Bool.{cases_lt}
 use Rattle.std.proofs.lemmas.List.{take_all, same_lists, take-take, take-append-le, length-replicate, length-take-le}
 use Rattle.uda_mem.specs.Put.{part, put}
@@ -43,11 +46,7 @@ AreBlocks blocks = All (λ block. length block ≡ 512) blocks
 
 pub length-concat_blocks : (blocks : List (List ℕ)) → AreBlocks blocks → length (concat blocks)
     ≡ 512 * length blocks
-length-concat_blocks [] h = omega arith
-length-concat_blocks (b ∷ bs) h =
-    let rest = length-concat_blocks bs (All-tail (λ block. length block ≡ 512) b bs h) in
-    let head : length b ≡ 512 = All-head (λ block. length block ≡ 512) b bs h in
-    simp length-append (omega arith)
+length-concat_blocks blocks h = length-concat blocks h
 
 pub AreBlocks-part : (blocks : List (List ℕ)) (at n : ℕ) → (0 < n → AreBlocks blocks)
     → AreBlocks (part blocks at n)
@@ -58,6 +57,21 @@ AreBlocks-part blocks at (suc n) h = All-take (λ block. length block ≡ 512) (
 
 pub AreBlocks-take : (blocks : List (List ℕ)) (n : ℕ) → AreBlocks blocks → AreBlocks (take n blocks)
 AreBlocks-take blocks n h = All-take (λ block. length block ≡ 512) n blocks h
+
+pub length-concat_take : (blocks : List (List ℕ)) (k : ℕ) → AreBlocks blocks → k ≤ length blocks
+    → length (concat (take k blocks)) ≡ 512 * k
+length-concat_take blocks k are few = length-concat (take k blocks) (AreBlocks-take blocks k are)
+    ∙ ap (λ n. 512 * n) (length-take-le k blocks few)
+
+pub concat_push : (front : List (List ℕ)) (block : List ℕ) → concat (front ++ block ∷ []) ≡ concat front ++ block
+concat_push front block = simp (concat-append, append-nil)
+
+-- the first `count` of bytes in front and more
+pub take_behind : (count n : ℕ) (front more : List ℕ) → length front ≡ n → n ≤ count
+    → take count (front ++ more) ≡ front ++ take (count - n) more
+take_behind count n front more size fits =
+    let reach : count ≡ length front + (count - n) = omega arith in
+    ap (λ (i : ℕ). take i (front ++ more)) reach ∙ take-append-add front more (count - n)
 
 pub AreBlocks-in_blocks : (bytes : List ℕ) → AreBlocks (in_blocks bytes)
 AreBlocks-in_blocks bytes =

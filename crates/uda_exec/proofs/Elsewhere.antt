@@ -1,16 +1,12 @@
 -- A command over another memory of the same length, which has the same bytes where the command reads: it ends the same, it
 -- changes the same units, and the bytes that its end message counts are the same there. The rest of a Read's buffer is left.
-use Rattle.std.proofs.Common.{◌≡◌, ℕ, ◌+◌, ◌-◌, ◌*◌, ◌<◌, ◌≤◌, min, inl, inr, Bool, true, false, List, [], ◌∷◌, ◌++◌, length, take, Option, Some, None, refl, sym, ap, subst, ◌∙◌, arith, length-take, append-nil}
+use Rattle.std.proofs.Common.{◌≡◌, ℕ, ◌+◌, ◌-◌, ◌*◌, ◌<◌, ◌≤◌, min, Bool, true, false, List, [], ◌∷◌, ◌++◌, length, take, Option, Some, None, refl, sym, ap, subst, ◌∙◌, arith, length-take, append-nil}
 use Rattle.std.specs.Prelude.{slice_get, slice_index, nat_lt, ◌&&◌, option_map}
 use Rattle.std.specs.Option.{option_map_or}
 use Rattle.std.specs.List.{concat}
-use Rattle.std.proofs.lemmas.Bool.{cases_lt}
 use Rattle.std.proofs.lemmas.Bool.Decides.{nat_tests}
-use Rattle.std.proofs.lemmas.List.{length-take-le}
-use Rattle.std.proofs.lemmas.List.Folds.{concat-append}
 use Rattle.std.proofs.lemmas.Option.{slice_get-map}
-use Rattle.std.proofs.Math.Seq.{take-append-add}
-use Rattle.uda_mem.proofs.PutLaws.{put-put_next, put-put_before, part-put_apart, part-put_at, length-part, length-part-le, get_or-part, put-nil}
+use Rattle.uda_mem.proofs.PutLaws.{put-put_next, put-put_before, part-put_apart, part-put_at, length-part, get_or-part, put-nil}
 use Rattle.uda_packet.specs.declared.command.Op.TheVariants as op
 use Rattle.uda_packet.specs.declared.end.Kind.TheVariants as kind
 use Rattle.uda_packet.specs.declared.guest_command.GuestOp.{GuestOp}
@@ -26,7 +22,8 @@ use Rattle.uda_exec.specs.Compare.{compared_by, compared, byte_held, IsVerdict, 
 use Rattle.uda_exec.specs.declared.compare.Verdict.{Verdict}
 use Rattle.uda_exec.specs.declared.compare.Verdict.TheVariants as verdict
 use Rattle.uda_exec.proofs.Words.{put, part, Op, Transfer, transfer_of, End, Act, Command, Refusal, Disk, UnitState, disk_of, CheckResult, Rejected, Accepted, check_by, check_at, check_with, with_buffer_checks, refusal_on, extent_of, is_odd, is_missing, TransferOutcome, Done, Lost, is_lost, IsWithinRange, transfer_status, transfer_bytes, due, blocks_moved, World, bytes_on, bytes_at, bytes_of, answer_on, end_for, reply, plain_body, blocks_for, HasWholeBlocks, buffer_start, memory_write_length, act_of, passes_checks, passes_checks_by, is_accepted, check_of, check_in, does, effect_by, effect, disks_of, world_of, Executes, ChangesAt, FailureFits, blocks_asked, transfer_refusal}
-use Rattle.uda_exec.proofs.Blocks.{AreBlocks, AreBlocks-part, AreBlocks-take, length-bytes_at, length-concat_blocks, put_back}
+use Rattle.uda_exec.proofs.Steps.{length-due_by}
+use Rattle.uda_exec.proofs.Blocks.{length-concat_take, concat_push, take_behind, AreBlocks, AreBlocks-part, length-bytes_at, put_back}
 use Rattle.uda_exec.proofs.Changes.{changes_by_put, changes_nothing}
 use Rattle.uda_exec.proofs.Requests.{asks, act_shared}
 use Rattle.uda_exec.proofs.Transferred.{Passes, passes_if, end-asks, moved-lost, told_there}
@@ -229,10 +226,7 @@ module _ (reference unit bytes address lbn : ℕ) (units units_after : Units) (m
     are_blocks = AreBlocks-part disk.blocks lbn count (λ some. (image some).whole)
 
     all_due : length due_blocks ≡ count
-    all_due = elim (cases_lt 0 count) [
-      | inl some ↦ length-part-le disk.blocks lbn count (omega (arith, passes.on_unit, (image some).counted))
-      | inr none ↦ omega (arith, length-part disk.blocks lbn count)
-    ]
+    all_due = length-due_by t_of disk.blocks memory (λ some. rw (image some).counted passes.on_unit) kind.Read
 
     end_is : (o : TransferOutcome) → IsWithinRange count o
         → reply read (transfer_status o) (plain_body read.op (transfer_bytes o bytes))
@@ -250,20 +244,14 @@ module _ (reference unit bytes address lbn : ℕ) (units units_after : Units) (m
     first_blocks k = concat (take k due_blocks)
 
     first_long : (k : ℕ) → k < count → length (first_blocks k) ≡ 512 * k
-    first_long k inside =
-        length-concat_blocks (take k due_blocks) (AreBlocks-take due_blocks k are_blocks)
-        ∙ ap (λ (n : ℕ). 512 * n) (length-take-le k due_blocks (omega (arith, all_due)))
+    first_long k inside = length-concat_take due_blocks k are_blocks (omega (arith, all_due))
 
     brings_lost : (k : ℕ) (block : List ℕ) → k < count
         → bytes_on (Lost k block) act disk ≡ first_blocks k ++ take (bytes - 512 * k) block
     brings_lost k block inside =
-        let long = first_long k inside in
-        let more : bytes ≡ length (first_blocks k) + (bytes - 512 * k) = omega (arith, long) in
         ap (λ (b : List (List ℕ)). take bytes (concat b)) (moved-lost k block due_blocks (omega (arith, all_due)))
-        ∙ ap (take bytes) (concat-append (take k due_blocks) (block ∷ [])
-        ∙ ap (λ (z : List ℕ). first_blocks k ++ z) (append-nil block))
-        ∙ ap (λ (n : ℕ). take n (first_blocks k ++ block)) more
-        ∙ take-append-add (first_blocks k) block (bytes - 512 * k)
+        ∙ ap (take bytes) (concat_push (take k due_blocks) block)
+        ∙ take_behind bytes (512 * k) (first_blocks k) block (first_long k inside) (omega arith)
 
     -- the bytes that the end message counts are carried
     carries_first : (o : TransferOutcome) (first rest : List ℕ) → IsWithinRange count o

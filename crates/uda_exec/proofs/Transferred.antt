@@ -1,11 +1,11 @@
 -- The complete effect of a transfer that succeeds, fails or is rejected; and that of a command that moves no
 -- blocks.
-use Rattle.std.proofs.Common.{◌≡◌, ℕ, suc, ◌+◌, ◌*◌, ◌<◌, ◌≤◌, zero-le, inl, inr, Bool, true, false, List, [], ◌∷◌, ◌++◌, length, get_or, take, set, refl, sym, ap, ap₂, subst, ◌∙◌, arith, add-one, add-zero, Option, Some, None, length-take, length-set}
+use Rattle.std.proofs.Common.{◌≡◌, ℕ, suc, ◌+◌, ◌*◌, ◌<◌, ◌≤◌, zero-le, Bool, true, false, List, [], ◌∷◌, ◌++◌, length, get_or, take, set, refl, sym, ap, ap₂, subst, ◌∙◌, arith, add-one, add-zero, Option, Some, None, length-take, length-set}
 use Rattle.std.specs.Prelude.{if◌then◌else◌, nat_eq, nat_le, nat_lt, replicate, unwrap_or, not, ◌%◌, ◌&&◌, ◌||◌, IfSome}
 use Rattle.std.specs.List.{concat}
 use Rattle.std.proofs.lemmas.List.{take_all, take_more, set_at, length-take-le, length-replicate}
 use Rattle.std.proofs.lemmas.List.Elements.{All-take, All-set}
-use Rattle.std.proofs.lemmas.Bool.{and_parts, cases_lt, le-ltb}
+use Rattle.std.proofs.lemmas.Bool.{and_parts, le-ltb}
 use Rattle.std.proofs.lemmas.Bool.Decides.{nat_tests}
 use Rattle.uda_mem.proofs.PutLaws.{put-nil}
 use Rattle.uda_packet.specs.declared.command.Op.TheVariants as op
@@ -24,7 +24,7 @@ use Rattle.uda_exec.proofs.Calls.{go_none}
 use Rattle.uda_exec.proofs.Changes.{changes_nothing}
 use Rattle.uda_exec.proofs.Requests.{asks}
 use Rattle.uda_exec.proofs.Blocks.{AreBlocks, length-bytes_at, length-concat_blocks}
-use Rattle.uda_exec.proofs.Steps.{length-due_by, length-due_le, AreBlocks-due}
+use Rattle.uda_exec.proofs.Steps.{length-due_by, AreBlocks-due}
 use Rattle.uda_image.specs.Store.{is_sound}
 use Rattle.uda_image.proofs.SoundLaws.{sound_before, stays_sound}
 
@@ -448,10 +448,7 @@ module _ (c : Command) (t : Transfer) (unit : UnitState) (memory : List ℕ)
       due_now = blocks_due t unit.store.blocks memory
 
       whole : length due_now ≡ block_count t
-      whole = elim (cases_lt 0 (block_count t)) [
-        | inl some ↦ length-due_by t unit.store.blocks memory (rw (image some).counted bounds.on_unit) t.kind
-        | inr none ↦ let short = length-due_le t unit.store.blocks memory t.kind in omega arith
-      ]
+      whole = length-due_by t unit.store.blocks memory (λ some. rw (image some).counted bounds.on_unit) t.kind
 
       -- for every outcome: if the blocks and bytes are as it says, the transfer has its complete effect
       takes : (o : TransferOutcome) (front : List (List ℕ)) → blocks_moved o due_now ≡ front

@@ -36,9 +36,9 @@ use Rattle.uda_exec.specs.BlockChanges.{use_on, are_written, LeavesUnit, Changes
 use Rattle.uda_exec.proofs.Blocks.{AreBlocks-in_blocks}
 use Rattle.uda_exec.proofs.Steps.{length-due_by, nothing_if}
 use Rattle.uda_exec.proofs.Written.{length-written}
-use Rattle.uda_exec.proofs.Transferred.{Passes, passes_if, check_on-by, extent-asks, free-still}
+use Rattle.uda_exec.proofs.Transferred.{Passes, passes_if, check_on-transfer, extent-asks, free-still}
 use Rattle.uda_exec.proofs.Units.{map-set_same, slot_in}
-use Rattle.uda_exec.proofs.Words.{put, Command, Op, Kind, Transfer, transfer_of, changes_blocks, Refusal, Disk, Act, in_blocks, extent_of, lbn_of, blocks_due, UnitState, disk_of, disks_of, block_count, transfer_buffer_length, blocks_asked, bytes_at, asks_by, act_of, due, blocks_moved, blocks_written, disk_after, is_lost, is_accepted, CheckResult, Accepted, check_by, first_failed_check, check_on, check_in, extent_in, transfer_refusal, TransferOutcome, Done, Lost, IsWithinRange, World, does, effect_by, effect, passes_checks_by, passes_checks, world_of, End, Executes}
+use Rattle.uda_exec.proofs.Words.{put, Command, Op, Kind, Transfer, transfer_of, changes_blocks, Refusal, Disk, Act, in_blocks, extent_of, lbn_of, blocks_due, UnitState, disk_of, disks_of, block_count, blocks_asked, bytes_at, asks_by, act_of, due, blocks_moved, blocks_written, disk_after, is_lost, is_accepted, CheckResult, Accepted, check_by, check_on, check_in, transfer_refusal, TransferOutcome, Done, Lost, IsWithinRange, World, does, effect_by, effect, passes_checks_by, passes_checks, world_of, End, Executes}
 
 -- ---- the unit of a list
 
@@ -246,15 +246,11 @@ module _ (c : Command) (units units_after : Units) (memory memory_left : List �
     asks_it : act_of c.op memory ≡ Some act
     asks_it = rw is refl
 
-    extent : extent_of act ≡ Some (extent_in t)
-    extent = extent-asks t memory t.kind
-
     abbrev refusal_of : Option Refusal
     refusal_of = transfer_refusal t (length memory) unit.store.size unit.mode
 
     checked : check_on c act unit memory ≡ check_by refusal_of (disk_of unit)
-    checked = check_on-by c act unit memory t.buffer (transfer_buffer_length t)
-        (first_failed_check (extent_in t) unit.store.size unit.mode) (rw is refl) (rw is refl) (rw extent refl)
+    checked = check_on-transfer c t unit memory is
 
     counted : blocks_asked c.op ≡ block_count t
     counted = rw is refl
@@ -277,7 +273,7 @@ module _ (c : Command) (units units_after : Units) (memory memory_left : List �
           outcome = it.outcome;
           within = subst (λ (n : ℕ). IsWithinRange n it.outcome) counted it.fits.count;
           written = own_blocks act unit asks_it here free
-              ∙ ap₂ (put (unit_blocks units c.unit)) (rw extent refl) written_is;
+              ∙ ap₂ (put (unit_blocks units c.unit)) (rw (extent-asks t memory t.kind) refl) written_is;
           failures_are = it.failures_are;
         }
     by_check None false found calls =

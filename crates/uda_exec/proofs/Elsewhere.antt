@@ -1,6 +1,6 @@
 -- A command over another memory of the same length, which has the same bytes where the command reads: it ends the same, it
 -- changes the same units, and the bytes that its end message counts are the same there. The rest of a Read's buffer is left.
-use Rattle.std.proofs.Common.{◌≡◌, ℕ, ◌+◌, ◌-◌, ◌*◌, ◌<◌, ◌≤◌, min, Bool, true, false, List, [], ◌∷◌, ◌++◌, length, take, Option, Some, None, refl, sym, ap, subst, ◌∙◌, arith, length-take, append-nil}
+use Rattle.std.proofs.Common.{◌≡◌, ℕ, ◌+◌, ◌-◌, ◌*◌, ◌<◌, ◌≤◌, min, Bool, true, List, [], ◌∷◌, ◌++◌, length, take, Option, Some, None, refl, sym, ap, subst, ◌∙◌, arith, length-take, append-nil}
 use Rattle.std.specs.Prelude.{slice_get, slice_index, nat_lt, ◌&&◌, option_map}
 use Rattle.std.specs.Option.{option_map_or}
 use Rattle.std.specs.List.{concat}
@@ -12,6 +12,7 @@ use Rattle.uda_packet.specs.declared.end.Kind.TheVariants as kind
 use Rattle.uda_packet.specs.declared.guest_command.GuestOp.{GuestOp}
 use Rattle.uda_packet.specs.declared.guest_command.GuestOp.TheVariants as guest
 use Rattle.uda_packet.specs.declared.reply.Reply.{Reply}
+use Rattle.uda_disk.specs.declared.refusal.Refusal.TheVariants.{UnitUnknown, NoVolume}
 use Rattle.uda_disk.specs.Request as ask
 use Rattle.uda_disk.specs.Units.{Units, failing_call_at, is_sound_at}
 use Rattle.uda_exec.specs.Commands.{memory_read_length}
@@ -21,13 +22,13 @@ use Rattle.uda_exec.specs.BufferUse.{read_length, changed_length, moved_length, 
 use Rattle.uda_exec.specs.Compare.{compared_by, compared, byte_held, IsVerdict, FitsTransfer, ComparesBlocks, ComparesSlot, ComparesUnit}
 use Rattle.uda_exec.specs.declared.compare.Verdict.{Verdict}
 use Rattle.uda_exec.specs.declared.compare.Verdict.TheVariants as verdict
-use Rattle.uda_exec.proofs.Words.{put, part, Op, Transfer, transfer_of, End, Act, Command, Refusal, Disk, UnitState, disk_of, CheckResult, Rejected, Accepted, check_by, check_at, check_with, with_buffer_checks, refusal_on, extent_of, is_odd, is_missing, TransferOutcome, Done, Lost, is_lost, IsWithinRange, transfer_status, transfer_bytes, due, blocks_moved, World, bytes_on, bytes_at, bytes_of, answer_on, end_for, reply, plain_body, blocks_for, HasWholeBlocks, buffer_start, memory_write_length, act_of, passes_checks, passes_checks_by, is_accepted, check_of, check_in, does, effect_by, effect, disks_of, world_of, Executes, ChangesAt, FailureFits, blocks_asked, transfer_refusal}
+use Rattle.uda_exec.proofs.Words.{odd_address_first, transfer_refusal, put, part, Op, Transfer, transfer_of, End, Act, Command, Refusal, Disk, UnitState, disk_of, CheckResult, Rejected, Accepted, check_by, is_odd, TransferOutcome, Done, Lost, is_lost, IsWithinRange, transfer_status, transfer_bytes, due, blocks_moved, World, bytes_on, bytes_at, bytes_of, answer_on, end_for, reply, plain_body, blocks_for, HasWholeBlocks, buffer_start, memory_write_length, act_of, passes_checks, passes_checks_by, is_accepted, check_of, check_in, does, effect_by, effect, disks_of, world_of, Executes, ChangesAt, FailureFits, blocks_asked}
 use Rattle.uda_exec.proofs.Steps.{length-due_by}
 use Rattle.uda_exec.proofs.Blocks.{length-concat_take, concat_push, take_behind, AreBlocks, AreBlocks-part, length-bytes_at, put_back}
 use Rattle.uda_exec.proofs.Changes.{changes_by_put, changes_nothing}
 use Rattle.uda_exec.proofs.Requests.{asks, act_shared}
-use Rattle.uda_exec.proofs.Transferred.{Passes, passes_if, end-asks, moved-lost, told_there}
-use Rattle.uda_exec.proofs.Units.{sound_if_faithful}
+use Rattle.uda_exec.proofs.Transferred.{check_on-transfer, Passes, passes_if, end-asks, moved-lost, told_there}
+use Rattle.uda_exec.proofs.Units.{slot_in, sound_if_faithful}
 
 part_none : (xs : List ℕ) (at n : ℕ) → n ≡ 0 → part xs at n ≡ []
 unfolding part
@@ -150,41 +151,6 @@ first_written xs at first rest room =
     ap (λ (m : List ℕ). part m at (length first)) (sym (put-put_next xs at first rest (at + length first) refl))
     ∙ part-put_apart (put xs at first) (at + length first) rest at (length first) (λ meet. omega arith)
     ∙ part-put_at xs at (length first) first room refl
-
--- an accepted command acts on the disk of its unit, and passes all checks
-record IsAccepted (odd missing : Bool) (act : Act) (slot : Option (Option Disk)) (disk : Disk) : Type 0 where
-  here : slot ≡ Some (Some disk)
-  passed : with_buffer_checks odd missing (refusal_on (extent_of act) disk.size disk.mode) ≡ None
-
-accepted_by : (odd missing : Bool) (found : Option Refusal) (one disk : Disk)
-    → check_with odd missing (check_by found one) ≡ Accepted disk
-    → (one ≡ disk) × (with_buffer_checks odd missing found ≡ None)
-accepted_by odd missing (Some refusal) one disk is = absurd (cc)
-accepted_by true missing None one disk is = absurd (cc)
-accepted_by false true None one disk is = absurd (cc)
-accepted_by false false None one disk is = (cc, refl)
-
-accepted_in : (odd missing : Bool) (act : Act) (slot : Option (Option Disk)) (disk : Disk)
-    → check_with odd missing (check_at act slot) ≡ Accepted disk → IsAccepted odd missing act slot disk
-accepted_in odd missing act None disk is = absurd (cc)
-accepted_in odd missing act (Some None) disk is = absurd (cc)
-accepted_in odd missing act (Some (Some one)) disk is =
-    let both = accepted_by odd missing (refusal_on (extent_of act) one.size one.mode) one disk is in
-    record {
-      here = ap (λ (d : Disk). Some (Some d)) both.0;
-      passed =
-          ap (λ (d : Disk). with_buffer_checks odd missing (refusal_on (extent_of act) d.size d.mode)) (sym both.0)
-          ∙ both.1;
-    }
-
--- the blocks of the disk of a unit whose store is sound are whole
-whole_disk : (slot : Option (Option UnitState)) (disk : Disk) → HasWholeStore slot → is_sound_at slot ≡ true
-    → option_map (option_map disk_of) slot ≡ Some (Some disk) → HasWholeBlocks disk.size disk.blocks
-whole_disk None disk whole sound is = absurd (cc)
-whole_disk (Some None) disk whole sound is = absurd (cc)
-whole_disk (Some (Some unit)) disk whole sound is =
-    let same : disk_of unit ≡ disk = cc in
-    subst (λ (d : Disk). HasWholeBlocks d.size d.blocks) same (whole sound)
 
 module _ (reference unit bytes address lbn : ℕ) (units units_after : Units) (memory other left : List ℕ) (e : End)
     (same : length other ≡ length memory) where
@@ -311,47 +277,52 @@ module _ (reference unit bytes address lbn : ℕ) (units units_after : Units) (m
       ap (with_memory left_there) is ∙ ap (λ (m : List ℕ). with_memory m (does o read act (Rejected refusal) (world_of units memory)))
       (put_none other left address (min bytes (bytes_of e.body)) (omega (arith, none)))
 
+  -- the result of its checks
+  abbrev checked : Option (Option UnitState) → CheckResult
+  checked slot = check_in read.op act (length memory) (option_map (option_map disk_of) slot)
+
   abbrev passing : Bool
   passing = passes_checks read (world_of units memory)
 
   module _ (whole : passing ≡ true → HasWholeStore (slice_get units unit))
       (sound : nat_lt 0 count && passing ≡ true → is_sound_at (slice_get units unit) ≡ true) where
-    effect_by_check : (o : TransferOutcome) → IsWithinRange count o → (b : CheckResult)
-        → check_of read act (world_of units memory) ≡ b
-        → (e, world_of units_after left) ≡ does o read act b (world_of units memory)
-        → (e, world_of units_after left_there) ≡ does (outcome_there o) read act b (world_of units other)
-    effect_by_check o f (Rejected refusal) checks is = rejected o refusal is
-    effect_by_check o f (Accepted disk) checks is =
-        let found = accepted_in (is_odd address) (is_missing address bytes (length memory)) act
-        (slice_get (disks_of units) unit) disk checks in
-        let slot : option_map (option_map disk_of) (slice_get units unit) ≡ Some (Some disk) =
-        sym (slice_get-map (option_map disk_of) units unit) ∙ found.here in
-        let passes : passing ≡ true = ap is_accepted checks in
-        effect_on disk (passes_if t_of (length memory) disk.size disk.mode found.passed)
-        (λ some. whole_disk (slice_get units unit) disk (whole passes)
-        (sound (let calls : nat_lt 0 count ≡ true = grind (arith, nat_tests) in rw (calls, passes) refl)) slot) o f is
+    effect_by_slot : (o : TransferOutcome) → IsWithinRange count o → (slot : Option (Option UnitState))
+        → slice_get units unit ≡ slot
+        → (e, world_of units_after left) ≡ does o read act (checked slot) (world_of units memory)
+        → (e, world_of units_after left_there) ≡ does (outcome_there o) read act (checked slot) (world_of units other)
+    effect_by_slot o f None here is = rejected o (odd_address_first (is_odd address) UnitUnknown) is
+    effect_by_slot o f (Some None) here is = rejected o (odd_address_first (is_odd address) NoVolume) is
+    effect_by_slot o f (Some (Some u)) here is = by_refusal (transfer_refusal t_of (length memory) u.store.size u.mode) refl
+      where
+        checks : checked (Some (Some u)) ≡ check_by (transfer_refusal t_of (length memory) u.store.size u.mode) (disk_of u)
+        checks = check_on-transfer read t_of u memory refl
+
+        by_refusal : (found : Option Refusal) → transfer_refusal t_of (length memory) u.store.size u.mode ≡ found
+            → (e, world_of units_after left_there)
+            ≡ does (outcome_there o) read act (checked (Some (Some u))) (world_of units other)
+        by_refusal (Some refusal) found = rw (checks, found) (rejected o refusal (rw (checks, found) at is))
+        by_refusal None found =
+            let passes : passing ≡ true = rw (slot_in units unit (Some (Some u)) here, checks, found) refl in
+            let calls : nat_lt 0 count ≡ true → nat_lt 0 count && passing ≡ true = λ some. rw (some, passes) refl in
+            rw (checks, found) (effect_on (disk_of u) (passes_if t_of (length memory) u.store.size u.mode found)
+            (λ some. (rw here at (whole passes)) (rw here at (sound (calls (grind (arith, nat_tests))))))
+            o f (rw (checks, found) at is))
 
     takes_read : TakesEffect read units memory e units_after left → TakesEffect read units other e units_after left_there
     takes_read t =
-        let b = check_of read act (world_of units memory) in
-        let checks : check_of read act (world_of units other) ≡ b =
-        ap (λ l. check_in read.op act l (slice_get (disks_of units) unit)) same in
+        let slot = slice_get-map (option_map disk_of) units unit in
         takes_effect_there read units units_after memory other left e same none_read left_there outcome_there t
         (record { acting = λ lost. t.fits.acting (sym (lost_same t.outcome) ∙ lost); count = within_there t.outcome t.fits.count })
-        (effect_by_check t.outcome t.fits.count b refl t.effect_is
-        ∙ sym (ap (λ (b : CheckResult). does (outcome_there t.outcome) read act b (world_of units other)) checks))
-        (lost_same t.outcome) (calls_same t.outcome t.calls) (done_same t.outcome)
+        (rw (same, slot) (effect_by_slot t.outcome t.fits.count (slice_get units unit) refl (rw slot at t.effect_is)))
+        (lost_same t.outcome) (rw (calls_same t.outcome) t.calls) (done_same t.outcome)
       where
         lost_same : (o : TransferOutcome) → is_lost (outcome_there o) ≡ is_lost o
         lost_same Done = refl
         lost_same (Lost k block) = refl
 
-        calls_same : (o : TransferOutcome) → CallsStore o (blocks_called read passing)
-            (failing_call_at (slice_get units unit)) (failing_call_at (slice_get units_after unit))
-            → CallsStore (outcome_there o) (blocks_called read passing)
-            (failing_call_at (slice_get units unit)) (failing_call_at (slice_get units_after unit))
-        calls_same Done calls = calls
-        calls_same (Lost k block) calls = calls
+        calls_same : (o : TransferOutcome) → CallsStore (outcome_there o) ≡ CallsStore o
+        calls_same Done = refl
+        calls_same (Lost k block) = refl
 
         done_same : (o : TransferOutcome) → o ≡ Done → outcome_there o ≡ Done
         done_same Done is = refl

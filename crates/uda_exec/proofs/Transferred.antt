@@ -346,9 +346,9 @@ module _ (c : Command) (t : Transfer) (unit : UnitState) (memory : List ℕ)
   extent = extent-asks t memory t.kind
 
   -- the result of its checks
-  barred : check_on c act unit memory ≡ check_by (transfer_refusal t (length memory) unit.store.size unit.mode)
+  pub check_on-transfer : check_on c act unit memory ≡ check_by (transfer_refusal t (length memory) unit.store.size unit.mode)
       (disk_of unit)
-  barred = check_on-by c act unit memory t.buffer (transfer_buffer_length t)
+  check_on-transfer = check_on-by c act unit memory t.buffer (transfer_buffer_length t)
       (first_failed_check (extent_in t) unit.store.size unit.mode) (rw is refl) (rw is refl) (rw extent refl)
 
   -- a transfer that fails a check is rejected, and changes nothing
@@ -357,7 +357,7 @@ module _ (c : Command) (t : Transfer) (unit : UnitState) (memory : List ℕ)
       → (a : Act) → act_of c.op memory ≡ Some a → ServesUnit c a unit memory
       (reply c (refusal_status refusal) (plain_body c.op 0)) unit memory
   serves_refused refusal h =
-      let b : check_on c act unit memory ≡ Rejected refusal = barred
+      let b : check_on c act unit memory ≡ Rejected refusal = check_on-transfer
       ∙ ap (λ (f : Option Refusal). check_by f (disk_of unit)) h in
       let e : End = reply c (refusal_status refusal) (plain_body c.op 0) in
       let takes : TakesEffectOn c act (check_on c act unit memory) unit memory e unit memory =
@@ -400,7 +400,7 @@ module _ (c : Command) (t : Transfer) (unit : UnitState) (memory : List ℕ)
 
   module _ (passed : transfer_refusal t (length memory) unit.store.size unit.mode ≡ None) where
     free : check_on c act unit memory ≡ Accepted (disk_of unit)
-    free = barred ∙ ap (λ (f : Option Refusal). check_by f (disk_of unit)) passed
+    free = check_on-transfer ∙ ap (λ (f : Option Refusal). check_by f (disk_of unit)) passed
 
     -- a transfer of one block or more calls the store
     is_called : 0 < block_count t → nat_lt 0 (blocks_asked c.op) && is_accepted (check_on c act unit memory) ≡ true

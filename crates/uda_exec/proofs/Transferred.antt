@@ -65,10 +65,10 @@ end_of-blank c memory act status is = ap₂ (reply c) (status-blank act status)
 -- ---- a command that moves no blocks
 
 -- an action without a range returns by the mode, and writes nothing
-record Still (o : Op) (act : Act) : Type 0 where
+pub record Still (o : Op) (act : Act) : Type 0 where
   pub answers : (disk : Disk) → IsBodyOf o (body_for o (answer_on Done act disk))
   pub no_extent : extent_of act ≡ None
-  pub stores : (blocks : List (List ℕ)) → blocks_written act (due act blocks) ≡ []
+  pub stores : (blocks : List (List ℕ)) → blocks_written act blocks ≡ []
   pub brings : (blocks : List (List ℕ)) → data_read act (due act blocks) ≡ []
   pub hard_stays : (mode : Mode) → (mode_after act mode).hard ≡ mode.hard
 
@@ -107,6 +107,10 @@ still_if _ none = absurd (cc)
 pub act_of-same : (o : Op) (memory : List ℕ) → transfer_of o ≡ None → act_of o memory ≡ act_of o []
 act_of-same o memory none = rw none refl
 
+pub still : (o : Op) (memory : List ℕ) (act : Act) → transfer_of o ≡ None → act_of o memory ≡ Some act → Still o act
+still o memory act none is =
+    subst (λ (a : Option Act). IfSome a (Still o)) (sym (act_of-same o memory none) ∙ is) (still_if o none)
+
 pub check_result-with_buffer_checks : (odd missing : Bool) (found : Option Refusal) (disk : Disk)
     → check_with odd missing (check_by found disk) ≡ check_by (with_buffer_checks odd missing found) disk
 check_result-with_buffer_checks odd missing None disk = refl
@@ -139,8 +143,7 @@ pub serves_mode : (c : Command) (act : Act) (unit : UnitState) (memory : List �
     → ServesUnit c act unit memory (end_for c (answer_on Done act (disk_of unit)))
     (record unit { mode = mode_after act unit.mode }) memory
 serves_mode c act unit memory none is =
-    let s : Still c.op act = subst (λ (a : Option Act). IfSome a (Still c.op))
-    (sym (act_of-same c.op memory none) ∙ is) (still_if c.op none) in
+    let s = still c.op memory act none is in
     let free = free-still c act unit memory none s.no_extent in
     let no_first : lbn_of act ≡ 0 = rw s.no_extent refl in
     let takes : TakesEffectOn c act (check_on c act unit memory) unit memory
@@ -158,7 +161,7 @@ serves_mode c act unit memory none is =
         size = unit.store.size;
         mode = mode_after act unit.mode;
       })
-          (sym (ap (put unit.store.blocks (lbn_of act)) (s.stores unit.store.blocks)
+          (sym (ap (put unit.store.blocks (lbn_of act)) (s.stores (due act unit.store.blocks))
           ∙ put-nil unit.store.blocks (lbn_of act)));
       failures_are = sym (add-zero unit.store.failures);
       calls = rw none (go_none unit.store.failing_call);

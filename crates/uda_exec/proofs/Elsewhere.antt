@@ -22,7 +22,7 @@ use Rattle.uda_exec.specs.BufferUse.{read_length, changed_length, moved_length, 
 use Rattle.uda_exec.specs.Compare.{compared_by, compared, byte_held, IsVerdict, FitsTransfer, ComparesBlocks, ComparesSlot, ComparesUnit}
 use Rattle.uda_exec.specs.declared.compare.Verdict.{Verdict}
 use Rattle.uda_exec.specs.declared.compare.Verdict.TheVariants as verdict
-use Rattle.uda_exec.proofs.Words.{odd_address_first, transfer_refusal, put, part, Op, Transfer, transfer_of, End, Act, Command, Refusal, Disk, UnitState, disk_of, CheckResult, Rejected, Accepted, check_by, is_odd, TransferOutcome, Done, Lost, is_lost, IsWithinRange, transfer_status, transfer_bytes, due, blocks_moved, World, bytes_on, bytes_at, bytes_of, answer_on, end_for, reply, plain_body, blocks_for, HasWholeBlocks, buffer_start, memory_write_length, act_of, passes_checks, passes_checks_by, is_accepted, check_of, check_in, does, effect_by, effect, disks_of, world_of, Executes, ChangesAt, FailureFits, blocks_asked}
+use Rattle.uda_exec.proofs.Words.{transfer_refusal, put, part, Op, Transfer, transfer_of, End, Act, Command, Refusal, Disk, UnitState, disk_of, CheckResult, Rejected, Accepted, check_by, TransferOutcome, Done, Lost, is_lost, IsWithinRange, transfer_status, transfer_bytes, due, blocks_moved, World, bytes_on, bytes_at, bytes_of, answer_on, end_for, reply, plain_body, blocks_for, HasWholeBlocks, buffer_start, memory_write_length, act_of, passes_checks, passes_checks_by, is_accepted, check_of, check_in, does, effect_by, effect, disks_of, world_of, Executes, ChangesAt, FailureFits, blocks_asked}
 use Rattle.uda_exec.proofs.Steps.{length-due_by}
 use Rattle.uda_exec.proofs.Blocks.{length-concat_take, concat_push, take_behind, AreBlocks, AreBlocks-part, length-bytes_at, put_back}
 use Rattle.uda_exec.proofs.Changes.{changes_by_put, changes_nothing}
@@ -290,8 +290,8 @@ module _ (reference unit bytes address lbn : ℕ) (units units_after : Units) (m
         → slice_get units unit ≡ slot
         → (e, world_of units_after left) ≡ does o read act (checked slot) (world_of units memory)
         → (e, world_of units_after left_there) ≡ does (outcome_there o) read act (checked slot) (world_of units other)
-    effect_by_slot o f None here is = rejected o (odd_address_first (is_odd address) UnitUnknown) is
-    effect_by_slot o f (Some None) here is = rejected o (odd_address_first (is_odd address) NoVolume) is
+    effect_by_slot o f None here is = rejected o UnitUnknown is
+    effect_by_slot o f (Some None) here is = rejected o NoVolume is
     effect_by_slot o f (Some (Some u)) here is = by_refusal (transfer_refusal t_of (length memory) u.store.size u.mode) refl
       where
         checks : checked (Some (Some u)) ≡ check_by (transfer_refusal t_of (length memory) u.store.size u.mode) (disk_of u)

@@ -4,7 +4,8 @@ use Rattle.std.proofs.lemmas.Option.{slice_get-get_or, slice_get_past}
 use Rattle.uda_exec.proofs.Words.{is_controller, world_of}
 use Rattle.uda_exec.proofs.Transferred.{Answers-plain}
 use Rattle.uda_disk.proofs.Slots.{set-itself}
-use Rattle.uda_exec.proofs.Units.{idle-controller, idle-barred, executes_idle, executes_on, slot_in}
+use Rattle.uda_exec.proofs.Units.{idle-controller, idle-rejected, executes_idle, executes_on, slot_in}
+use Rattle.uda_disk.specs.declared.refusal.Refusal.TheVariants.{UnitUnknown, NoVolume}
 use Rattle.uda_exec.proofs.Requests.{asks_some, act_from}
 use Rattle.uda_exec.proofs.executor.execute.Goals as goal
 
@@ -23,8 +24,8 @@ returns-then-unit-units-clause-executes g c =
     rw c.from-unit.ensures at c.if-unit-units.true in
     let asks = act_from _ (asks_some c.args.command.op c.args.memory.now speaks) in
     rw c.refuse.ensures (executes_idle c.args.command c.args.units.now c.args.memory.now _
-    (idle-barred c.args.command (world_of c.args.units.now c.args.memory.now) asks.0 None _ asks.1
-    (slot_in c.args.units.now c.args.command.unit None (slice_get_past _ _ past)) (λ odd missing. refl))
+    (idle-rejected c.args.command (world_of c.args.units.now c.args.memory.now) asks.0 UnitUnknown asks.1
+    (rw (slot_in c.args.units.now c.args.command.unit None (slice_get_past _ _ past)) refl))
     (Answers-plain c.args.command _ 0 zero-le))
 
 pub returns-in-None-clause-executes : goal.returns-in-None-clause-executes
@@ -38,8 +39,8 @@ returns-in-None-clause-executes g c =
     let asks = act_from _ (asks_some c.args.command.op c.args.memory.now speaks) in
     rw (c.refuse-in-None.ensures, set-itself _ _ _ here)
     (executes_idle c.args.command c.args.units.now c.args.memory.now _
-    (idle-barred c.args.command (world_of c.args.units.now c.args.memory.now) asks.0 (Some None) _ asks.1
-    (slot_in c.args.units.now c.args.command.unit (Some None) empty) (λ odd missing. refl))
+    (idle-rejected c.args.command (world_of c.args.units.now c.args.memory.now) asks.0 NoVolume asks.1
+    (rw (slot_in c.args.units.now c.args.command.unit (Some None) empty) refl))
     (Answers-plain c.args.command _ 0 zero-le))
 
 pub returns-in-Some-clause-executes : goal.returns-in-Some-clause-executes

@@ -1,11 +1,11 @@
 -- The complete effect of a transfer that succeeds, fails or is rejected; and that of a command that moves no
 -- blocks.
-use Rattle.std.proofs.Common.{◌≡◌, ℕ, suc, ◌+◌, ◌*◌, ◌<◌, ◌≤◌, zero-le, Bool, true, false, List, [], ◌∷◌, ◌++◌, length, get_or, take, set, refl, sym, ap, ap₂, subst, ◌∙◌, arith, add-one, add-zero, Option, Some, None, length-take, length-set}
-use Rattle.std.specs.Prelude.{if◌then◌else◌, nat_eq, nat_le, nat_lt, replicate, unwrap_or, not, ◌%◌, ◌&&◌, ◌||◌, IfSome}
+use Rattle.std.proofs.Common.{rules, ◌≡◌, ℕ, suc, ◌+◌, ◌*◌, ◌<◌, ◌≤◌, zero-le, Bool, true, false, List, [], ◌∷◌, ◌++◌, length, get_or, take, set, refl, sym, ap, ap₂, subst, ◌∙◌, arith, add-one, add-zero, Option, Some, None, length-take, length-set}
+use Rattle.std.specs.Prelude.{if◌then◌else◌, nat_lt, replicate, ◌&&◌, ◌||◌, IfSome}
 use Rattle.std.specs.List.{concat}
 use Rattle.std.proofs.lemmas.List.{take_all, take_more, set_at, length-take-le, length-replicate}
 use Rattle.std.proofs.lemmas.List.Elements.{All-take, All-set}
-use Rattle.std.proofs.lemmas.Bool.{and_parts, le-ltb}
+use Rattle.std.proofs.lemmas.Bool.{le-ltb}
 use Rattle.std.proofs.lemmas.Bool.Decides.{nat_tests}
 use Rattle.uda_mem.proofs.PutLaws.{put-nil}
 use Rattle.uda_packet.specs.declared.command.Op.TheVariants as op
@@ -16,7 +16,6 @@ use Rattle.uda_disk.specs.Request as ask
 use Rattle.uda_disk.specs.Status.{SUCCESS, DRIVE_ERROR}
 use Rattle.uda_disk.specs.Answer.{status_of}
 use Rattle.uda_exec.proofs.Words.{put, Command, Op, Kind, End, EndBody, Transfer, transfer_of, changes_blocks, StoreState, KeepsAttributes, HasWholeBlocks, Mode, Refusal, Disk, Act, blocks_for, extent_of, lbn_of, UnitState, disk_of, blank_answer, block_count, transfer_buffer_length, buffer_length, blocks_asked, buffer_start, bytes_asked, changes_memory, refusal_status, first_failed_check, CheckResult, Rejected, Accepted, check_by, refusal_on, with_buffer_checks, check_with, extent_in, is_odd, is_missing, transfer_refusal, ChangesAt, asks_by, act_of, blocks_due, bytes_landing, blocks_stored, Progress, StopsAt, TransferOutcome, Done, Lost, IsWithinRange, blocks_moved, due, blocks_written, data_read, mode_after, bytes_on, answer_on, reply, plain_body, with_bytes_moved, body_for, end_for, is_accepted, transfer_status, transfer_bytes, is_lost, bytes_of, IsBodyOf, Answers, check_on, EndsTransfer, TakesEffectOn, ServesUnit}
-use Rattle.uda_disk.specs.declared.refusal.Refusal.TheVariants.{NotOnline, OddCount, BlockPastEnd, RangePastEnd, HardwareProtected}
 use Rattle.uda_disk.specs.Units.{is_infallible}
 use Rattle.uda_exec.specs.Transfers.{never_fails_in}
 use Rattle.uda_exec.specs.Execution.{CallsStore}
@@ -52,9 +51,6 @@ Answers-plain c status bytes h = record { reference = refl; unit = refl; body = 
 -- a rejected command
 status-blank : (act : Act) (status : ℕ) → status_of (blank_answer act status) ≡ status
 status-blank (ask.Online protect) status = refl
-status-blank ask.Available status = refl
-status-blank ask.Status status = refl
-status-blank (ask.Read first bytes) status = refl
 status-blank _ status = refl
 
 pub end_of-blank : (c : Command) (memory : List ℕ) (act : Act) (status : ℕ) → act_of c.op memory ≡ Some act
@@ -79,29 +75,8 @@ hard-online protect mode = elim mode.online as
 
 still_if : (o : Op) → transfer_of o ≡ None → IfSome (act_of o []) (Still o)
 still_if op.Controller none = tt
-still_if op.Status none = record {
-  answers = λ disk. record { opcode = refl; within = zero-le };
-  no_extent =
-      refl;
-  stores = λ blocks. refl;
-  brings = λ blocks. refl;
-  hard_stays = λ mode. refl;
-}
-still_if op.Available none = record {
-  answers = λ disk. record { opcode = refl; within = zero-le };
-  no_extent = refl;
-  stores = λ blocks. refl;
-  brings = λ blocks. refl;
-  hard_stays = λ mode. refl;
-}
-still_if (op.Online soft) none = record {
-  answers = λ disk. record { opcode = refl; within = zero-le };
-  no_extent = refl;
-  stores = λ blocks. refl;
-  brings = λ blocks. refl;
-  hard_stays = hard-online (unwrap_or soft false);
-}
-still_if _ none = absurd (cc)
+still_if (op.Online soft) none = search (rules, hard-online)
+still_if _ none = search rules
 
 -- its action doesn't depend on memory
 pub act_of-same : (o : Op) (memory : List ℕ) → transfer_of o ≡ None → act_of o memory ≡ act_of o []
@@ -145,24 +120,15 @@ pub serves_mode : (c : Command) (act : Act) (unit : UnitState) (memory : List �
 serves_mode c act unit memory none is =
     let s = still c.op memory act none is in
     let free = free-still c act unit memory none s.no_extent in
-    let no_first : lbn_of act ≡ 0 = rw s.no_extent refl in
+    let blocks = s.stores (due act unit.store.blocks) in
     let takes : TakesEffectOn c act (check_on c act unit memory) unit memory
     (end_for c (answer_on Done act (disk_of unit))) (record unit { mode = mode_after act unit.mode }) memory =
-    subst (λ (b : CheckResult). TakesEffectOn c act b unit memory
-    (end_for c (answer_on Done act (disk_of unit))) (record unit { mode = mode_after act unit.mode })
-    memory) (sym free) (record {
+    rw free (record {
       outcome = Done;
       fits = record { acting = λ lost. absurd (cc); count = tt };
       end_is = refl;
-      memory_is = sym (ap (put memory (buffer_start c.op)) (s.brings unit.store.blocks)
-          ∙ put-nil memory (buffer_start c.op));
-      disk_is = ap (λ (b : List (List ℕ)). record {
-        blocks = b;
-        size = unit.store.size;
-        mode = mode_after act unit.mode;
-      })
-          (sym (ap (put unit.store.blocks (lbn_of act)) (s.stores (due act unit.store.blocks))
-          ∙ put-nil unit.store.blocks (lbn_of act)));
+      memory_is = rw (s.brings unit.store.blocks, put-nil) refl;
+      disk_is = rw (blocks, put-nil) refl;
       failures_are = sym (add-zero unit.store.failures);
       calls = rw none (go_none unit.store.failing_call);
       infallible = λ never. refl;
@@ -170,15 +136,9 @@ serves_mode c act unit memory none is =
     record {
       answers = record { reference = refl; unit = refl; body = s.answers (disk_of unit) };
       memory_stays = changes_nothing memory _ _;
-      attributes_stay = ap (λ (hard : Bool). record {
-        size = unit.store.size;
-        hard = hard;
-        faithful = unit.store.faithful;
-        never_fails = unit.store.never_fails;
-      }) (s.hard_stays unit.mode);
+      attributes_stay = rw (s.hard_stays unit.mode) refl;
       mode_stays = λ transfers. let not = rw none at transfers in absurd (cc);
-      unit_stays = λ idle. let not : is_accepted (Accepted (disk_of unit)) ≡ false = ap is_accepted (sym free) ∙ idle in
-          absurd (cc);
+      unit_stays = λ idle. let not = rw free at idle in absurd (cc);
       ends = λ transfers acting. let not = rw none at transfers in absurd (cc);
       takes_effect = λ trusted. takes;
       sound_before = λ sound. sound;
@@ -217,38 +177,22 @@ passes_if t memory size mode h =
     record { on_unit = in_range (extent_in t) size mode none.nothing; in_memory = grind (arith, nat_tests) }
 
 -- a transfer that changes blocks, and passes its checks, finds no hardware protection
-unprotected_by : (online even past over writes hard : Bool) (more : Option Refusal) → writes ≡ true
-    → (if not online then Some NotOnline else if not even then Some OddCount else if past then Some BlockPastEnd
-    else if over then Some RangePastEnd else if writes && hard then Some HardwareProtected else more) ≡ None
-    → hard ≡ false
-unprotected_by false even past over writes hard more changes none = absurd (cc)
-unprotected_by true false past over writes hard more changes none = absurd (cc)
-unprotected_by true true true over writes hard more changes none = absurd (cc)
-unprotected_by true true false true writes hard more changes none = absurd (cc)
-unprotected_by true true false false true true more changes none = absurd (cc)
-unprotected_by true true false false true false more changes none = refl
-unprotected_by true true false false false hard more changes none = absurd (cc)
-
-left_of : (a b : Bool) → a || b ≡ true → b ≡ false → a ≡ true
-left_of true b one other = refl
-left_of false b one other = absurd (cc)
+unprotected : (e : ask.Extent) (size : ℕ) (mode : Mode) → first_failed_check e size mode ≡ None → e.writes ≡ true
+    → mode.hard ≡ false
+unprotected e size mode h writes = grind (arith, nat_tests)
 
 -- so the store of an infallible unit doesn't fail in it
 never_fails_by : (kind_writes : Bool) (store : StoreState) (hard : Bool)
     → store.never_fails.reads && (store.never_fails.writes || hard) ≡ true → (kind_writes ≡ true → hard ≡ false)
     → (if kind_writes then store.never_fails.writes else store.never_fails.reads) ≡ true
-never_fails_by true store hard never open_to =
-    left_of store.never_fails.writes hard (and_parts store.never_fails.reads _ never).1 (open_to refl)
-never_fails_by false store hard never open_to = (and_parts store.never_fails.reads _ never).0
+never_fails_by kind_writes store hard never open_to = grind (arith, nat_tests)
 
 never_fails_there : (t : Transfer) (memory : ℕ) (store : StoreState) (mode : Mode)
     → transfer_refusal t memory store.size mode ≡ None
     → store.never_fails.reads && (store.never_fails.writes || mode.hard) ≡ true → never_fails_in t.kind store ≡ true
 never_fails_there t memory store mode passed never =
-    let e = extent_in t in
-    never_fails_by (changes_blocks t.kind) store mode.hard never (λ changes.
-    unprotected_by mode.online (nat_eq (e.bytes % 2) 0) (nat_le store.size e.lbn)
-    (nat_lt store.size (e.lbn + blocks_for e.bytes)) e.writes mode.hard _ changes (none_found _ _ _ passed).nothing)
+    never_fails_by (changes_blocks t.kind) store mode.hard never
+    (unprotected (extent_in t) store.size mode (none_found _ _ _ passed).nothing)
 
 -- the first k blocks and the content of block k
 pub moved-lost : (k : ℕ) (left : List ℕ) (blocks : List (List ℕ)) → k < length blocks
@@ -289,31 +233,22 @@ asks-transfer o t memory is = rw is refl
 module _ (t : Transfer) (memory : List ℕ) where
   pub extent-asks : (k : Kind) → extent_of (asks_by k t memory)
       ≡ Some (record { lbn = t.lbn; bytes = t.bytes; writes = changes_blocks k })
-  extent-asks kind.Access = refl
-  extent-asks kind.Erase = refl
-  extent-asks kind.Read = refl
-  extent-asks kind.Write = ap (λ (n : ℕ). Some (record { lbn = t.lbn; bytes = n; writes = true }))
-      (length-bytes_at memory t.buffer t.bytes)
+  extent-asks kind.Write = rw (length-bytes_at memory t.buffer t.bytes) refl
+  extent-asks _ = refl
 
   mode-asks : (k : Kind) (mode : Mode) → mode_after (asks_by k t memory) mode ≡ mode
   mode-asks kind.Access mode = refl
-  mode-asks kind.Erase mode = refl
-  mode-asks kind.Read mode = refl
-  mode-asks kind.Write mode = refl
+  mode-asks _ mode = refl
 
   blocks_written-asks : (k : Kind) (blocks : List (List ℕ)) → blocks_written (asks_by k t memory) blocks
       ≡ (if changes_blocks k then blocks else [])
   blocks_written-asks kind.Access blocks = refl
-  blocks_written-asks kind.Erase blocks = refl
-  blocks_written-asks kind.Read blocks = refl
-  blocks_written-asks kind.Write blocks = refl
+  blocks_written-asks _ blocks = refl
 
   data_read-asks : (k : Kind) (blocks : List (List ℕ)) → data_read (asks_by k t memory) blocks
       ≡ (if changes_memory k then take t.bytes (concat blocks) else [])
   data_read-asks kind.Access blocks = refl
-  data_read-asks kind.Erase blocks = refl
-  data_read-asks kind.Read blocks = refl
-  data_read-asks kind.Write blocks = refl
+  data_read-asks _ blocks = refl
 
   -- the end message of an accepted transfer whose blocks are whole
   pub end-asks : (c : Command) (o : TransferOutcome) (disk : Disk) (k : Kind)
@@ -321,15 +256,11 @@ module _ (t : Transfer) (memory : List ℕ) where
       ≡ block_count t → IsWithinRange (block_count t) o
       → reply c (transfer_status o) (plain_body c.op (transfer_bytes o t.bytes))
       ≡ end_for c (answer_on o (asks_by k t memory) disk)
-  end-asks c o disk kind.Access are whole f = refl
-  end-asks c o disk kind.Erase are whole f = refl
   end-asks c o disk kind.Read are whole f =
-      let there = told_there o t.bytes (due (ask.Read t.lbn t.bytes) disk.blocks) are whole f in
-      ap (λ (n : ℕ). reply c (transfer_status o) (plain_body c.op n))
-      (sym (length-take-le (transfer_bytes o t.bytes) (bytes_on o (ask.Read t.lbn t.bytes) disk) there))
-  end-asks c o disk kind.Write are whole f =
-      ap (λ (n : ℕ). reply c (transfer_status o) (plain_body c.op (transfer_bytes o n)))
-      (sym (length-bytes_at memory t.buffer t.bytes))
+      rw (length-take-le (transfer_bytes o t.bytes) (bytes_on o (ask.Read t.lbn t.bytes) disk)
+      (told_there o t.bytes (due (ask.Read t.lbn t.bytes) disk.blocks) are whole f)) refl
+  end-asks c o disk kind.Write are whole f = rw (length-bytes_at memory t.buffer t.bytes) refl
+  end-asks c o disk _ are whole f = refl
 
 module _ (c : Command) (t : Transfer) (unit : UnitState) (memory : List ℕ)
     (is : transfer_of c.op ≡ Some t) where
@@ -341,9 +272,7 @@ module _ (c : Command) (t : Transfer) (unit : UnitState) (memory : List ℕ)
       → ServesUnit c act unit memory e unit_after memory_left
       → (a : Act) → act_of c.op memory ≡ Some a → ServesUnit c a unit memory e unit_after memory_left
   asked e unit_after memory_left s a other =
-      let one : Some act ≡ Some a = sym (asks-transfer c.op t memory is) ∙ other in
-      let same : act ≡ a = cc in
-      subst (λ (x : Act). ServesUnit c x unit memory e unit_after memory_left) same s
+      let one = asks-transfer c.op t memory is in let same : a ≡ act = cc in rw same s
 
   extent : extent_of act ≡ Some (extent_in t)
   extent = extent-asks t memory t.kind
@@ -364,8 +293,7 @@ module _ (c : Command) (t : Transfer) (unit : UnitState) (memory : List ℕ)
       ∙ ap (λ (f : Option Refusal). check_by f (disk_of unit)) h in
       let e : End = reply c (refusal_status refusal) (plain_body c.op 0) in
       let takes : TakesEffectOn c act (check_on c act unit memory) unit memory e unit memory =
-      subst (λ (b : CheckResult). TakesEffectOn c act b unit memory e unit memory) (sym b)
-      (record {
+      rw b (record {
         outcome = Done;
         fits = record { acting = λ lost. absurd (cc); count = tt };
         end_is = sym (end_of-blank c memory act (refusal_status refusal)
@@ -382,8 +310,7 @@ module _ (c : Command) (t : Transfer) (unit : UnitState) (memory : List ℕ)
         attributes_stay = refl;
         mode_stays = λ transfers. refl;
         unit_stays = λ idle. refl;
-        ends = λ transfers acting. let not : is_accepted (Rejected refusal) ≡ true = sym (ap is_accepted b) ∙ acting in
-            absurd (cc);
+        ends = λ transfers acting. let not = rw b at acting in absurd (cc);
         takes_effect = λ trusted. takes;
         sound_before = λ sound. sound;
         takes_effect_if_sound = λ trusted. takes;
@@ -407,10 +334,7 @@ module _ (c : Command) (t : Transfer) (unit : UnitState) (memory : List ℕ)
 
     -- a transfer of one block or more calls the store
     is_called : 0 < block_count t → nat_lt 0 (blocks_asked c.op) && is_accepted (check_on c act unit memory) ≡ true
-    is_called some = let calls : nat_lt 0 (block_count t) ≡ true = grind (arith, nat_tests) in
-        let count : blocks_asked c.op ≡ block_count t = rw is refl in
-        ap (λ (b : Bool). nat_lt 0 (blocks_asked c.op) && b) (ap is_accepted free)
-        ∙ ap (λ (n : ℕ). nat_lt 0 n && true) count ∙ ap (λ (b : Bool). b && true) calls
+    is_called some = let calls : nat_lt 0 (block_count t) ≡ true = grind (arith, nat_tests) in rw (free, is, calls) refl
 
     bounds : Passes t (length memory) unit.store.size
     bounds = passes_if t (length memory) unit.store.size unit.mode passed
@@ -425,24 +349,16 @@ module _ (c : Command) (t : Transfer) (unit : UnitState) (memory : List ℕ)
         → (a : Act) → act_of c.op memory ≡ Some a → ServesUnit c a unit memory
         (reply c status (plain_body c.op bytes)) (record { store = new; mode = unit.mode }) memory_left
     serves_moved new memory_left attributes changes status bytes few ends takes =
-        let on_unit : TakesEffectOn c act (Accepted (disk_of unit)) unit memory
-        (reply c status (plain_body c.op bytes)) (record { store = new; mode = unit.mode }) memory_left
-        → TakesEffectOn c act (check_on c act unit memory) unit memory
-        (reply c status (plain_body c.op bytes)) (record { store = new; mode = unit.mode }) memory_left =
-        subst (λ (b : CheckResult). TakesEffectOn c act b unit memory
-        (reply c status (plain_body c.op bytes)) (record { store = new; mode = unit.mode }) memory_left)
-        (sym free) in
         asked _ _ _ (record {
           answers = Answers-plain c status bytes (rw is few);
           memory_stays = rw is changes;
           attributes_stay = rw (attributes.size_stays, attributes.faithful_stays, attributes.never_fails_stays) refl;
           mode_stays = λ transfers. refl;
-          unit_stays = λ idle. let none : is_accepted (Accepted (disk_of unit)) ≡ false = ap is_accepted (sym free) ∙ idle in
-              absurd (cc);
+          unit_stays = λ idle. let not = rw free at idle in absurd (cc);
           ends = λ transfers acting. ends;
-          takes_effect = λ trusted. on_unit (takes (λ some. stays_sound attributes (trusted (is_called some))));
+          takes_effect = λ trusted. rw free (takes (λ some. stays_sound attributes (trusted (is_called some))));
           sound_before = sound_before attributes;
-          takes_effect_if_sound = λ trusted. on_unit (takes (λ some. trusted (is_called some)));
+          takes_effect_if_sound = λ trusted. rw free (takes (λ some. trusted (is_called some)));
         })
 
     module _ (image : 0 < block_count t → HasWholeBlocks unit.store.size unit.store.blocks) (new : StoreState)

@@ -147,52 +147,26 @@ serves_mode c act unit memory none is =
 
 -- ---- a transfer
 
--- if no check fails, nothing is wrong
-pub record NoneFound (odd missing : Bool) (found : Option Refusal) : Type 0 where
-  pub even : odd ≡ false
-  pub present : missing ≡ false
-  pub nothing : found ≡ None
-
-pub none_found : (odd missing : Bool) (found : Option Refusal) → with_buffer_checks odd missing found ≡ None
-    → NoneFound odd missing found
-none_found odd missing (Some refusal) h = absurd (cc)
-none_found true missing None h = absurd (cc)
-none_found false true None h = absurd (cc)
-none_found false false None h = record { even = refl; present = refl; nothing = refl }
-
 -- the properties of a transfer that passes its checks
 pub record Passes (t : Transfer) (memory size : ℕ) : Type 0 where
   pub on_unit : t.lbn + block_count t ≤ size
   pub in_memory : t.buffer + transfer_buffer_length t ≤ memory
 
-pub in_range : (e : ask.Extent) (size : ℕ) (mode : Mode) → first_failed_check e size mode ≡ None
-    → e.lbn + blocks_for e.bytes ≤ size
-in_range e size mode h = grind (arith, nat_tests)
-
 pub passes_if : (t : Transfer) (memory size : ℕ) (mode : Mode) → transfer_refusal t memory size mode ≡ None
     → Passes t memory size
-passes_if t memory size mode h =
-    let none = none_found _ _ _ h in
-    let present : nat_lt memory (t.buffer + transfer_buffer_length t) ≡ false = none.present in
-    record { on_unit = in_range (extent_in t) size mode none.nothing; in_memory = grind (arith, nat_tests) }
+passes_if t memory size mode h = record { on_unit = grind (arith, nat_tests); in_memory = grind (arith, nat_tests) }
 
 -- a transfer that changes blocks, and passes its checks, finds no hardware protection
-unprotected : (e : ask.Extent) (size : ℕ) (mode : Mode) → first_failed_check e size mode ≡ None → e.writes ≡ true
-    → mode.hard ≡ false
-unprotected e size mode h writes = grind (arith, nat_tests)
+unprotected : (t : Transfer) (memory size : ℕ) (mode : Mode) → transfer_refusal t memory size mode ≡ None
+    → changes_blocks t.kind ≡ true → mode.hard ≡ false
+unprotected t memory size mode passed writes = grind (arith, nat_tests)
 
 -- so the store of an infallible unit doesn't fail in it
-never_fails_by : (kind_writes : Bool) (store : StoreState) (hard : Bool)
-    → store.never_fails.reads && (store.never_fails.writes || hard) ≡ true → (kind_writes ≡ true → hard ≡ false)
-    → (if kind_writes then store.never_fails.writes else store.never_fails.reads) ≡ true
-never_fails_by kind_writes store hard never open_to = grind (arith, nat_tests)
-
 never_fails_there : (t : Transfer) (memory : ℕ) (store : StoreState) (mode : Mode)
     → transfer_refusal t memory store.size mode ≡ None
     → store.never_fails.reads && (store.never_fails.writes || mode.hard) ≡ true → never_fails_in t.kind store ≡ true
 never_fails_there t memory store mode passed never =
-    never_fails_by (changes_blocks t.kind) store mode.hard never
-    (unprotected (extent_in t) store.size mode (none_found _ _ _ passed).nothing)
+    let free = unprotected t memory store.size mode passed in grind (arith, nat_tests, free)
 
 -- the first k blocks and the content of block k
 pub moved-lost : (k : ℕ) (left : List ℕ) (blocks : List (List ℕ)) → k < length blocks

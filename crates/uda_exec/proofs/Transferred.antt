@@ -156,17 +156,12 @@ pub passes_if : (t : Transfer) (memory size : ℕ) (mode : Mode) → transfer_re
     → Passes t memory size
 passes_if t memory size mode h = record { on_unit = grind (arith, nat_tests); in_memory = grind (arith, nat_tests) }
 
--- a transfer that changes blocks, and passes its checks, finds no hardware protection
-unprotected : (t : Transfer) (memory size : ℕ) (mode : Mode) → transfer_refusal t memory size mode ≡ None
-    → changes_blocks t.kind ≡ true → mode.hard ≡ false
-unprotected t memory size mode passed writes = grind (arith, nat_tests)
-
--- so the store of an infallible unit doesn't fail in it
+-- the store of an infallible unit doesn't fail in a transfer that passes its checks
 never_fails_there : (t : Transfer) (memory : ℕ) (store : StoreState) (mode : Mode)
     → transfer_refusal t memory store.size mode ≡ None
     → store.never_fails.reads && (store.never_fails.writes || mode.hard) ≡ true → never_fails_in t.kind store ≡ true
 never_fails_there t memory store mode passed never =
-    let free = unprotected t memory store.size mode passed in grind (arith, nat_tests, free)
+    grind (arith, nat_tests)
 
 -- the first k blocks and the content of block k
 pub moved-lost : (k : ℕ) (left : List ℕ) (blocks : List (List ℕ)) → k < length blocks

@@ -11,9 +11,9 @@ use Rattle.uda_packet.specs.declared.command.Op.TheVariants as op
 use Rattle.uda_disk.proofs.Runs.{first_is_free, runs-push}
 use Rattle.uda_disk.proofs.Swap as item
 use Rattle.uda_disk.proofs.Swap.{Told, judge}
-use Rattle.uda_exec.proofs.Words.{put, part, Overlap, Command, Op, End, Disks, Act, buffer_start, buffer_length, bytes_at, act_of, World, AreIndependent, FixedCommand, commands_of, effect_of, effects, OrderIsIrrelevant, OneMore, with_bytes, PassesThrough, SameData, DependsOnDataAlone}
+use Rattle.uda_exec.proofs.Words.{end_for, put, part, Overlap, Command, Op, End, Disks, Act, buffer_start, buffer_length, bytes_at, act_of, World, AreIndependent, FixedCommand, commands_of, effect_of, effects, OrderIsIrrelevant, OneMore, with_bytes, PassesThrough, SameData, DependsOnDataAlone}
 use Rattle.uda_exec.proofs.Requests.{asks, act_of-put, act_shared}
-use Rattle.uda_exec.proofs.Swap.{swaps, item_of, lands, effect-lands, effect-none, behind, length-told}
+use Rattle.uda_exec.proofs.Swap.{swaps, item_of, effect-lands, effect-none, behind, length-told}
 
 pub order_is_irrelevant : OrderIsIrrelevant
 order_is_irrelevant xs j x w apart goes at =
@@ -38,20 +38,16 @@ passes_one : (x : FixedCommand) (w : World) (at : ℕ) (bytes : List ℕ)
     → (asked : Option Act) → act_of x.command.op w.memory ≡ asked → effect_of x (with_bytes w at bytes)
     ≡ ((effect_of x w).0, with_bytes (effect_of x w).1 at bytes)
 passes_one x w at bytes beside None is =
-    let behind_it : End × World → End × World = λ r. (r.0, with_bytes r.1 at bytes) in
-    effect-none x (with_bytes w at bytes) (act_of-put x.command.op w.memory at bytes beside ∙ is)
-    ∙ sym (ap behind_it (effect-none x w is))
+    rw (effect-none x (with_bytes w at bytes) (act_of-put x.command.op w.memory at bytes beside ∙ is), effect-none x w is) refl
 passes_one x w at bytes beside (Some act) is =
     let c = x.command in
     let it = item_of x act (length w.memory) in
     let r = item.does it w.disks in
-    let behind_it : End × World → End × World = λ r. (r.0, with_bytes r.1 at bytes) in
     let little = length-told x act (length w.memory) (judge it (slice_get w.disks c.unit))
     (asks c.op w.memory act is) in
-    let make : List ℕ → End × World = λ m. ((lands c w.memory r).0, record { memory = m; disks = r.1 }) in
-    behind x act w at bytes w.disks is beside
-    ∙ ap make (put-put_comm w.memory at bytes (buffer_start c.op) r.0.1 (λ meet. beside (omega arith)))
-    ∙ sym (ap behind_it (effect-lands x act w is))
+    rw (behind x act w at bytes w.disks is beside, effect-lands x act w is)
+    (ap (λ (m : List ℕ). (end_for c r.0.0, record { memory = m; disks = r.1 }))
+    (put-put_comm w.memory at bytes (buffer_start c.op) r.0.1 (λ meet. beside (omega arith))))
 
 pub passes_through : PassesThrough
 passes_through [] at bytes w beside = refl
@@ -60,9 +56,7 @@ passes_through (x ∷ rest) at bytes w beside =
     (buffer_length a.command.op) → ⊥ in
     let now = passes_one x w at bytes (All-head P x rest beside) _ refl in
     let later = passes_through rest at bytes (effect_of x w).1 (All-tail P x rest beside) in
-    let step : End × World → List End × World = λ r. let more = effects rest r.1 in (r.0 ∷ more.0, more.1) in
-    let behind_it : List End × World → List End × World = λ r. ((effect_of x w).0 ∷ r.0, r.1) in
-    ap step now ∙ ap behind_it later
+    rw (now, later) refl
 
 -- a part that two lists share is still shared when the same is put into both
 part-put_both : (xs ys : List ℕ) (at : ℕ) (new : List ℕ) (a n : ℕ) → length xs ≡ length ys
@@ -117,22 +111,23 @@ agrees_one : (x : FixedCommand) (memory other : List ℕ) (disks : Disks) → le
     → Agrees memory other (effect_of x (record { memory = memory; disks = disks }))
     (effect_of x (record { memory = other; disks = disks }))
 agrees_one x memory other disks same None is is' =
-    subst₂ (Agrees memory other) (sym (effect-none x (record { memory = memory; disks = disks }) is))
-    (sym (effect-none x (record { memory = other; disks = disks }) is'))
+    rw (
+      effect-none x (record { memory = memory; disks = disks }) is,
+      effect-none x (record { memory = other; disks = disks }) is',
+    )
     (record { ends = refl; units = refl; same_length = same; same_acts = λ o g. g })
 agrees_one x memory other disks same (Some act) is is' =
-    let c = x.command in
-    let r = item.does (item_of x act (length memory)) disks in
-    let there : effect_of x (record { memory = other; disks = disks }) ≡ lands c other r =
-    effect-lands x act (record { memory = other; disks = disks }) is'
-    ∙ ap (λ (n : ℕ). lands c other (item.does (item_of x act n) disks)) (sym same) in
-    subst₂ (Agrees memory other) (sym (effect-lands x act (record { memory = memory; disks = disks }) is))
-    (sym there) (record {
+    let start = buffer_start x.command.op in
+    let bytes = (item.does (item_of x act (length memory)) disks).0.1 in
+    rw (
+      effect-lands x act (record { memory = memory; disks = disks }) is,
+      effect-lands x act (record { memory = other; disks = disks }) is',
+      ← same,
+    ) (record {
       ends = refl;
       units = refl;
-      same_length = length-put memory (buffer_start c.op) r.0.1 ∙ same
-          ∙ sym (length-put other (buffer_start c.op) r.0.1);
-      same_acts = λ o g. act_of-put_both o memory other (buffer_start c.op) r.0.1 same g;
+      same_length = length-put memory start bytes ∙ same ∙ sym (length-put other start bytes);
+      same_acts = λ o g. act_of-put_both o memory other start bytes same g;
     })
 
 pub depends_on_data_alone : DependsOnDataAlone

@@ -132,14 +132,12 @@ used_in_memory None exec memory = tt
 used_in_memory (Some g) exec memory = by_parts (transfer_by g.op g.command.op) (info_at (slice_get exec.units g.command.unit)) where
   by_parts : (t : Option Transfer) (info : Option UnitInfo)
       → IfSome (used_by t memory info) (λ t. t.buffer + transfer_buffer_length t ≤ memory)
-  by_parts None info = tt
-  by_parts (Some t) None = tt
   by_parts (Some t) (Some info) = by_check (transfer_refusal t memory info.size info.mode) (nat_lt 0 (block_count t)) refl where
     by_check : (r : Option Refusal) (some : Bool) → transfer_refusal t memory info.size info.mode ≡ r
         → IfSome (if is_none r && some then Some t else None) (λ t. t.buffer + transfer_buffer_length t ≤ memory)
     by_check None true is = (passes_if t memory info.size info.mode is).in_memory
-    by_check None false is = tt
-    by_check (Some r) some is = tt
+    by_check _ some is = tt
+  by_parts _ _ = tt
 
 -- no bytes are a part of any
 pub none_part : (to xs : List ℕ) (at : ℕ) → length to ≡ 0 → to ≡ part xs at (length to)

@@ -1,7 +1,6 @@
 -- The comparison of blocks with memory from block to block; and the list of additional operations.
 use Rattle.std.proofs.Common.{◌≡◌, ℕ, ◌+◌, ◌-◌, ◌*◌, ◌/◌, ◌%◌, ◌<◌, ◌≤◌, true, List, [], ◌∷◌, ◌++◌, length, get_or, replicate, Option, Some, None, refl, sym, ap, ◌∙◌, arith, append_assoc, length-append}
 use Rattle.std.specs.Prelude.{slice_index}
-use Rattle.std.specs.Prelude.{unwrap_or}
 use Rattle.std.proofs.lemmas.List.{get_or_push, length-replicate}
 use Rattle.std.proofs.lemmas.Option.{get_or_from_slice_get, unwrap_or-slice_get, slice_get_past}
 use Rattle.uda_mem.proofs.PutLaws.{get_or-part}
@@ -47,8 +46,8 @@ compares_block t k found old new memory block window reads is finds = record {
       (λ i below.
       ap (λ (w : List ℕ). get_or w i 0) is ∙ get_or-part memory (t.buffer + 512 * k) (count_at t k) i 0 below
       ∙ ap (λ j. get_or memory j 0) (omega arith)) finds;
-  blocks_stay = ap (λ (s : StoreState). s.blocks) reads.state_stays;
-  failures_stay = ap (λ (s : StoreState). s.failures) reads.state_stays;
+  blocks_stay = rw reads.state_stays refl;
+  failures_stay = rw reads.state_stays refl;
 }
 
 -- ---- a range of blocks
@@ -81,12 +80,10 @@ op_last place ops op past =
     let more = replicate (place - length ops) guest.Basic in
     let front : length (ops ++ more) ≡ place =
     omega (arith, length-append ops more, length-replicate (place - length ops) guest.Basic, past) in
-    unwrap_or-slice_get (ops ++ (more ++ op ∷ [])) place guest.Basic
-    ∙ ap (λ (l : List GuestOp). get_or l place guest.Basic) (sym (append_assoc ops more (op ∷ [])))
-    ∙ get_or_push (ops ++ more) op guest.Basic place front
+    rw (unwrap_or-slice_get, ← append_assoc ops more (op ∷ [])) (get_or_push (ops ++ more) op guest.Basic place front)
 
 pub op_noted : (op : GuestOp) (place : ℕ) (ops : List GuestOp) → length ops ≤ place
     → op_at (with_op op place ops) place ≡ op
-op_noted guest.Basic place ops past = ap (λ o. unwrap_or o guest.Basic) (slice_get_past ops place past)
+op_noted guest.Basic place ops past = rw (slice_get_past ops place past) refl
 op_noted guest.SetUnit place ops past = op_last place ops guest.SetUnit past
 op_noted guest.Compare place ops past = op_last place ops guest.Compare past

@@ -31,7 +31,7 @@ use Rattle.uda_exec.specs.SetUnit.{unit_set}
 use Rattle.uda_exec.specs.BlockChanges.{use_on, are_written, LeavesUnit, ChangesUnit, ChangesOnly}
 use Rattle.uda_exec.proofs.Steps.{AreBlocks-due_by, length-due_by, nothing_if}
 use Rattle.uda_exec.proofs.Written.{length-written}
-use Rattle.uda_exec.proofs.Transferred.{still, Passes, passes_if, check_on-transfer, extent-asks, free-still}
+use Rattle.uda_exec.proofs.Transferred.{asks_it, still, Passes, passes_if, check_on-transfer, extent-asks, free-still}
 use Rattle.uda_exec.proofs.Units.{slot_in}
 use Rattle.uda_exec.proofs.Words.{due_by, put, Command, Op, Kind, Transfer, transfer_of, changes_blocks, Refusal, Disk, Act, in_blocks, lbn_of, blocks_due, UnitState, disk_of, disks_of, block_count, blocks_asked, asks_by, act_of, due, blocks_moved, blocks_written, disk_after, is_lost, is_accepted, Accepted, check_by, check_on, check_in, transfer_refusal, TransferOutcome, Done, Lost, IsWithinRange, World, passes_checks, world_of, End, Executes}
 
@@ -185,9 +185,6 @@ module _ (c : Command) (units units_after : Units) (memory memory_left : List �
     abbrev act : Act
     act = asks_by t.kind t memory
 
-    asks_it : act_of c.op memory ≡ Some act
-    asks_it = rw is refl
-
     abbrev refusal_of : Option Refusal
     refusal_of = transfer_refusal t (length memory) unit.store.size unit.mode
 
@@ -201,7 +198,7 @@ module _ (c : Command) (units units_after : Units) (memory memory_left : List �
     by_check : (r : Option Refusal) (some : Bool) → refusal_of ≡ r → nat_lt 0 (block_count t) ≡ some
         → own_unit (if is_none r && some then Some t else None)
     by_check (Some refusal) some found calls =
-        rejected_as act (Some (Some unit)) asks_it here (rw (checked, found) refl)
+        rejected_as act (Some (Some unit)) (asks_it c t unit memory is) here (rw (checked, found) refl)
     by_check None true found calls =
         let passes = passes_if t (length memory) unit.store.size unit.mode found in
         record {
@@ -209,13 +206,13 @@ module _ (c : Command) (units units_after : Units) (memory memory_left : List �
           size = size_is t memory unit.store.size passes;
           outcome = it.outcome;
           within = rw is at it.fits.count;
-          written = own_blocks act unit asks_it here (rw (checked, found) refl)
+          written = own_blocks act unit (asks_it c t unit memory is) here (rw (checked, found) refl)
               ∙ ap₂ (put (unit_blocks units c.unit)) (rw (extent-asks t memory t.kind) refl) written_is;
           failures_are = it.failures_are;
         }
     by_check None false found calls =
         let few : block_count t ≡ 0 = grind (arith, nat_tests) in
-        unwritten act unit asks_it here (rw (checked, found) refl) (rw is few)
+        unwritten act unit (asks_it c t unit memory is) here (rw (checked, found) refl) (rw is few)
         (written_is ∙ rw (no_bytes t memory few) (moved_none it.outcome))
 
   transfer_on : (t : Transfer) → transfer_of c.op ≡ Some t → (slot : Option (Option UnitState))

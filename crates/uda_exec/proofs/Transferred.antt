@@ -1,10 +1,9 @@
 -- The complete effect of a transfer that succeeds, fails or is rejected; and that of a command that moves no
 -- blocks.
-use Rattle.std.proofs.Common.{rules, ◌≡◌, ℕ, suc, ◌+◌, ◌*◌, ◌<◌, ◌≤◌, zero-le, Bool, true, false, List, [], ◌∷◌, ◌++◌, length, get_or, take, set, refl, sym, ap, ap₂, subst, ◌∙◌, arith, add-one, add-zero, Option, Some, None, length-take, length-set}
+use Rattle.std.proofs.Common.{rules, ◌≡◌, ℕ, ◌+◌, ◌*◌, ◌<◌, ◌≤◌, zero-le, Bool, true, List, [], ◌∷◌, ◌++◌, length, get_or, take, refl, sym, ap, ap₂, subst, ◌∙◌, arith, add-one, add-zero, Option, Some, None, length-take, length-append}
 use Rattle.std.specs.Prelude.{if◌then◌else◌, nat_lt, replicate, ◌&&◌, ◌||◌, IfSome}
 use Rattle.std.specs.List.{concat}
 use Rattle.std.proofs.lemmas.List.{take_all, take_more, set_at, length-take-le, length-replicate}
-use Rattle.std.proofs.lemmas.List.Elements.{All-take, All-set}
 use Rattle.std.proofs.lemmas.Bool.{le-ltb}
 use Rattle.std.proofs.lemmas.Bool.Decides.{nat_tests}
 use Rattle.uda_mem.proofs.PutLaws.{put-nil}
@@ -15,14 +14,14 @@ use Rattle.uda_packet.specs.Opcode.{answered_opcode, blank_body}
 use Rattle.uda_disk.specs.Request as ask
 use Rattle.uda_disk.specs.Status.{SUCCESS, DRIVE_ERROR}
 use Rattle.uda_disk.specs.Answer.{status_of}
-use Rattle.uda_exec.proofs.Words.{put, Command, Op, Kind, End, EndBody, Transfer, transfer_of, changes_blocks, StoreState, KeepsAttributes, HasWholeBlocks, Mode, Refusal, Disk, Act, blocks_for, extent_of, lbn_of, UnitState, disk_of, blank_answer, block_count, transfer_buffer_length, buffer_length, blocks_asked, buffer_start, bytes_asked, changes_memory, refusal_status, first_failed_check, CheckResult, Rejected, Accepted, check_by, refusal_on, with_buffer_checks, check_with, extent_in, is_odd, is_missing, transfer_refusal, ChangesAt, asks_by, act_of, blocks_due, bytes_landing, blocks_stored, Progress, StopsAt, TransferOutcome, Done, Lost, IsWithinRange, blocks_moved, due, blocks_written, data_read, mode_after, bytes_on, answer_on, reply, plain_body, with_bytes_moved, body_for, end_for, is_accepted, transfer_status, transfer_bytes, is_lost, bytes_of, IsBodyOf, Answers, check_on, EndsTransfer, TakesEffectOn, ServesUnit}
+use Rattle.uda_exec.proofs.Words.{put, Command, Op, Kind, End, EndBody, Transfer, transfer_of, changes_blocks, StoreState, KeepsAttributes, HasWholeBlocks, Mode, Refusal, Disk, Act, blocks_for, extent_of, UnitState, disk_of, blank_answer, block_count, transfer_buffer_length, blocks_asked, bytes_asked, changes_memory, refusal_status, first_failed_check, Rejected, Accepted, check_by, with_buffer_checks, check_with, extent_in, transfer_refusal, ChangesAt, asks_by, act_of, blocks_due, bytes_landing, blocks_stored, Progress, StopsAt, TransferOutcome, Done, Lost, IsWithinRange, blocks_moved, due, blocks_written, data_read, mode_after, bytes_on, answer_on, reply, plain_body, with_bytes_moved, body_for, end_for, is_accepted, transfer_status, transfer_bytes, is_lost, bytes_of, IsBodyOf, Answers, check_on, EndsTransfer, TakesEffectOn, ServesUnit}
 use Rattle.uda_disk.specs.Units.{is_infallible}
 use Rattle.uda_exec.specs.Transfers.{never_fails_in}
 use Rattle.uda_exec.specs.Execution.{CallsStore}
 use Rattle.uda_exec.proofs.Calls.{go_none}
 use Rattle.uda_exec.proofs.Changes.{changes_nothing}
 use Rattle.uda_exec.proofs.Requests.{asks}
-use Rattle.uda_exec.proofs.Blocks.{AreBlocks, length-bytes_at, length-concat_blocks}
+use Rattle.uda_exec.proofs.Blocks.{AreBlocks, length-bytes_at, length-concat_blocks, length-concat_take, concat_push}
 use Rattle.uda_exec.proofs.Steps.{length-due_by, AreBlocks-due}
 use Rattle.uda_image.specs.Store.{is_sound}
 use Rattle.uda_image.proofs.SoundLaws.{sound_before, stays_sound}
@@ -38,15 +37,16 @@ bytes_of-with_bytes (body.Moved kind old) bytes = omega arith
 bytes_of-with_bytes _ bytes = zero-le
 
 -- the plain body is the command's, with a byte count of at most its own
-pub IsBodyOf-plain : (op : Op) (bytes : ℕ) → bytes ≤ bytes_asked op → IsBodyOf op (plain_body op bytes)
-IsBodyOf-plain op bytes h = record {
-  opcode = opcode-with_bytes (blank_body op) bytes;
-  within = omega (arith, bytes_of-with_bytes (blank_body op) bytes);
-}
-
 pub Answers-plain : (c : Command) (status bytes : ℕ) → bytes ≤ bytes_asked c.op
     → Answers c (reply c status (plain_body c.op bytes))
-Answers-plain c status bytes h = record { reference = refl; unit = refl; body = IsBodyOf-plain c.op bytes h }
+Answers-plain c status bytes h = record {
+  reference = refl;
+  unit = refl;
+  body = record {
+    opcode = opcode-with_bytes (blank_body c.op) bytes;
+    within = omega (arith, bytes_of-with_bytes (blank_body c.op) bytes);
+  };
+}
 
 -- a rejected command
 status-blank : (act : Act) (status : ℕ) → status_of (blank_answer act status) ≡ status
@@ -55,8 +55,7 @@ status-blank _ status = refl
 
 pub end_of-blank : (c : Command) (memory : List ℕ) (act : Act) (status : ℕ) → act_of c.op memory ≡ Some act
     → end_for c (blank_answer act status) ≡ reply c status (plain_body c.op 0)
-end_of-blank c memory act status is = ap₂ (reply c) (status-blank act status)
-    ((asks c.op memory act is).blank status)
+end_of-blank c memory act status is = ap₂ (reply c) (status-blank act status) ((asks c.op memory act is).blank status)
 
 -- ---- a command that moves no blocks
 
@@ -69,9 +68,7 @@ pub record Still (o : Op) (act : Act) : Type 0 where
   pub hard_stays : (mode : Mode) → (mode_after act mode).hard ≡ mode.hard
 
 hard-online : (protect : Bool) (mode : Mode) → (mode_after (ask.Online protect) mode).hard ≡ mode.hard
-hard-online protect mode = elim mode.online as
-    (λ b. (if b then mode else record mode { online = true; soft = protect }).hard ≡ mode.hard)
-    [ true ↦ refl | _ ↦ refl ]
+hard-online protect mode = grind (arith, nat_tests)
 
 still_if : (o : Op) → transfer_of o ≡ None → IfSome (act_of o []) (Still o)
 still_if op.Controller none = tt
@@ -91,26 +88,9 @@ pub check_result-with_buffer_checks : (odd missing : Bool) (found : Option Refus
 check_result-with_buffer_checks odd missing None disk = refl
 check_result-with_buffer_checks odd missing (Some refusal) disk = refl
 
--- the checks of a command are those of its action, and those of its buffer
-pub check_on-by : (c : Command) (act : Act) (unit : UnitState) (memory : List ℕ) (address room : ℕ)
-    (found : Option Refusal) → buffer_start c.op ≡ address → buffer_length c.op ≡ room
-    → refusal_on (extent_of act) unit.store.size unit.mode ≡ found
-    → check_on c act unit memory ≡ check_by
-    (with_buffer_checks (is_odd address) (is_missing address room (length memory)) found) (disk_of unit)
-check_on-by c act unit memory address room found at has is =
-    let m = length memory in let disk = disk_of unit in
-    let b : CheckResult = check_by (refusal_on (extent_of act) unit.store.size unit.mode) disk in
-    ap (λ (a : ℕ). check_with (is_odd a) (is_missing a (buffer_length c.op) m) b) at
-    ∙ ap (λ (r : ℕ). check_with (is_odd address) (is_missing address r m) b) has
-    ∙ ap (λ (f : Option Refusal). check_with (is_odd address) (is_missing address room m) (check_by f disk)) is
-    ∙ check_result-with_buffer_checks _ _ found disk
-
 pub free-still : (c : Command) (act : Act) (unit : UnitState) (memory : List ℕ) → transfer_of c.op ≡ None
     → extent_of act ≡ None → check_on c act unit memory ≡ Accepted (disk_of unit)
-free-still c act unit memory none still =
-    let present : is_missing 0 0 (length memory) ≡ false = le-ltb (length memory) 0 zero-le in
-    check_on-by c act unit memory 0 0 None (rw none refl) (rw none refl) (rw still refl)
-    ∙ ap (λ (missing : Bool). check_by (with_buffer_checks false missing None) (disk_of unit)) present
+free-still c act unit memory none still = rw (none, still, le-ltb (length memory) 0 zero-le) refl
 
 -- the unit's mode is that of the command, and nothing else changed
 pub serves_mode : (c : Command) (act : Act) (unit : UnitState) (memory : List ℕ) → transfer_of c.op ≡ None
@@ -160,45 +140,23 @@ passes_if t memory size mode h = record { on_unit = grind (arith, nat_tests); in
 never_fails_there : (t : Transfer) (memory : ℕ) (store : StoreState) (mode : Mode)
     → transfer_refusal t memory store.size mode ≡ None
     → store.never_fails.reads && (store.never_fails.writes || mode.hard) ≡ true → never_fails_in t.kind store ≡ true
-never_fails_there t memory store mode passed never =
-    grind (arith, nat_tests)
+never_fails_there t memory store mode passed never = grind (arith, nat_tests)
 
 -- the first k blocks and the content of block k
 pub moved-lost : (k : ℕ) (left : List ℕ) (blocks : List (List ℕ)) → k < length blocks
     → blocks_moved (Lost k left) blocks ≡ take k blocks ++ left ∷ []
 moved-lost k left blocks h =
-    let more : take (suc k) blocks ≡ take k blocks ++ get_or blocks k [] ∷ [] =
-    rw (← add-one) (take_more blocks k [] h) in
-    ap (λ (b : List (List ℕ)). set b k left) more ∙ set_at (take k blocks) (get_or blocks k []) [] left k
-    (length-take-le k blocks (omega arith))
-
--- blocks that were moved are whole
-AreBlocks-moved : (o : TransferOutcome) (n : ℕ) (bs : List (List ℕ)) → AreBlocks bs → IsWithinRange n o
-    → AreBlocks (blocks_moved o bs)
-AreBlocks-moved Done n bs h f = h
-AreBlocks-moved (Lost k left) n bs h f = All-set (λ block. length block ≡ 512) (take (suc k) bs) k left f.1
-    (All-take (λ block. length block ≡ 512) (suc k) bs h)
+    rw (← add-one, take_more blocks k [] h)
+    (set_at (take k blocks) (get_or blocks k []) [] left k (length-take-le k blocks (omega arith)))
 
 pub told_there : (o : TransferOutcome) (n : ℕ) (bs : List (List ℕ)) → AreBlocks bs → length bs ≡ blocks_for n
     → IsWithinRange (blocks_for n) o → transfer_bytes o n ≤ length (take n (concat (blocks_moved o bs)))
 told_there Done n bs h e f = omega (arith, length-concat_blocks bs h, length-take n (concat bs))
 told_there (Lost k left) n bs h e f =
-    let all = blocks_moved (Lost k left) bs in
-    omega (
-      arith,
-      f.0,
-      length-set (take (suc k) bs) k left,
-      length-take (suc k) bs,
-      length-concat_blocks all
-          (AreBlocks-moved (Lost k left) (blocks_for n) bs h f),
-      length-take n (concat all),
-    )
+    rw (moved-lost k left bs (omega (arith, f.0)), concat_push) (simp (length-take, length-append)
+    (omega (arith, f.0, length-concat_take bs k h (omega (arith, f.0)))))
 
 -- the action of a transfer, by its kind
-asks-transfer : (o : Op) (t : Transfer) (memory : List ℕ) → transfer_of o ≡ Some t → act_of o memory
-    ≡ Some (asks_by t.kind t memory)
-asks-transfer o t memory is = rw is refl
-
 module _ (t : Transfer) (memory : List ℕ) where
   pub extent-asks : (k : Kind) → extent_of (asks_by k t memory)
       ≡ Some (record { lbn = t.lbn; bytes = t.bytes; writes = changes_blocks k })
@@ -236,12 +194,14 @@ module _ (c : Command) (t : Transfer) (unit : UnitState) (memory : List ℕ)
   abbrev act : Act
   act = asks_by t.kind t memory
 
+  pub asks_it : act_of c.op memory ≡ Some act
+  asks_it = rw is refl
+
   -- for each action
   asked : (e : End) (unit_after : UnitState) (memory_left : List ℕ)
       → ServesUnit c act unit memory e unit_after memory_left
       → (a : Act) → act_of c.op memory ≡ Some a → ServesUnit c a unit memory e unit_after memory_left
-  asked e unit_after memory_left s a other =
-      let one = asks-transfer c.op t memory is in let same : a ≡ act = cc in rw same s
+  asked e unit_after memory_left s a other = let one = asks_it in let same : a ≡ act = cc in rw same s
 
   extent : extent_of act ≡ Some (extent_in t)
   extent = extent-asks t memory t.kind
@@ -249,8 +209,8 @@ module _ (c : Command) (t : Transfer) (unit : UnitState) (memory : List ℕ)
   -- the result of its checks
   pub check_on-transfer : check_on c act unit memory ≡ check_by (transfer_refusal t (length memory) unit.store.size unit.mode)
       (disk_of unit)
-  check_on-transfer = check_on-by c act unit memory t.buffer (transfer_buffer_length t)
-      (first_failed_check (extent_in t) unit.store.size unit.mode) (rw is refl) (rw is refl) (rw extent refl)
+  check_on-transfer = rw (is, extent) (check_result-with_buffer_checks _ _
+      (first_failed_check (extent_in t) unit.store.size unit.mode) (disk_of unit))
 
   -- a transfer that fails a check is rejected, and changes nothing
   pub serves_refused : (refusal : Refusal) → transfer_refusal t (length memory) unit.store.size unit.mode
@@ -258,15 +218,13 @@ module _ (c : Command) (t : Transfer) (unit : UnitState) (memory : List ℕ)
       → (a : Act) → act_of c.op memory ≡ Some a → ServesUnit c a unit memory
       (reply c (refusal_status refusal) (plain_body c.op 0)) unit memory
   serves_refused refusal h =
-      let b : check_on c act unit memory ≡ Rejected refusal = check_on-transfer
-      ∙ ap (λ (f : Option Refusal). check_by f (disk_of unit)) h in
+      let b : check_on c act unit memory ≡ Rejected refusal = rw (check_on-transfer, h) refl in
       let e : End = reply c (refusal_status refusal) (plain_body c.op 0) in
       let takes : TakesEffectOn c act (check_on c act unit memory) unit memory e unit memory =
       rw b (record {
         outcome = Done;
         fits = record { acting = λ lost. absurd (cc); count = tt };
-        end_is = sym (end_of-blank c memory act (refusal_status refusal)
-            (asks-transfer c.op t memory is));
+        end_is = sym (end_of-blank c memory act (refusal_status refusal) asks_it);
         memory_is = refl;
         disk_is = refl;
         failures_are = sym (add-zero unit.store.failures);
@@ -299,7 +257,7 @@ module _ (c : Command) (t : Transfer) (unit : UnitState) (memory : List ℕ)
 
   module _ (passed : transfer_refusal t (length memory) unit.store.size unit.mode ≡ None) where
     free : check_on c act unit memory ≡ Accepted (disk_of unit)
-    free = check_on-transfer ∙ ap (λ (f : Option Refusal). check_by f (disk_of unit)) passed
+    free = rw (check_on-transfer, passed) refl
 
     -- a transfer of one block or more calls the store
     is_called : 0 < block_count t → nat_lt 0 (blocks_asked c.op) && is_accepted (check_on c act unit memory) ≡ true
@@ -350,8 +308,6 @@ module _ (c : Command) (t : Transfer) (unit : UnitState) (memory : List ℕ)
           (reply c (transfer_status o) (plain_body c.op (transfer_bytes o t.bytes)))
           (record { store = new; mode = unit.mode }) memory_left
       takes o front all fits in_memory in_store failed calls infallible =
-          let make : List (List ℕ) → ℕ → Mode → Disk = λ b n m. record { blocks = b; size = n; mode = m } in
-          let first : lbn_of act ≡ t.lbn = rw extent refl in
           let bytes : bytes_on o act (disk_of unit) ≡ bytes_landing t front = data_read-asks t memory t.kind
           (blocks_moved o due_now) ∙ ap (bytes_landing t) all in
           let blocks : blocks_written act (blocks_moved o due_now) ≡ blocks_stored t front =
@@ -361,9 +317,8 @@ module _ (c : Command) (t : Transfer) (unit : UnitState) (memory : List ℕ)
             fits = record { acting = λ lost. refl; count = rw is fits };
             end_is = end-asks t memory c o (disk_of unit) t.kind
                 (AreBlocks-due t unit.store.blocks memory (λ some. (image some).whole)) whole fits;
-            memory_is = in_memory ∙ rw (is, bytes) refl;
-            disk_is = rw (first, blocks, mode-asks t memory t.kind unit.mode)
-                (ap₂ (λ b n. make b n unit.mode) in_store attributes.size_stays);
+            memory_is = rw (is, bytes) in_memory;
+            disk_is = rw (extent, blocks, mode-asks t memory t.kind unit.mode, in_store, attributes.size_stays) refl;
             failures_are = failed;
             calls = rw is calls;
             infallible = infallible;

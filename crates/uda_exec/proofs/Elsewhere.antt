@@ -1,10 +1,11 @@
 -- A command over another memory of the same length, which has the same bytes where the command reads: it ends the same, it
 -- changes the same units, and the bytes that its end message counts are the same there. The rest of a Read's buffer is left.
-use Rattle.std.proofs.Common.{◌≡◌, ℕ, ◌+◌, ◌-◌, ◌*◌, ◌<◌, ◌≤◌, min, Bool, true, List, [], ◌∷◌, ◌++◌, length, take, Option, Some, None, refl, sym, ap, subst, ◌∙◌, arith, length-take, append-nil}
+use Rattle.std.proofs.Common.{◌≡◌, ℕ, ◌+◌, ◌-◌, ◌*◌, ◌<◌, ◌≤◌, min, Bool, true, List, [], ◌++◌, length, take, Option, Some, None, refl, sym, ap, subst, ◌∙◌, arith, length-take, append-nil}
 use Rattle.std.specs.Prelude.{slice_get, slice_index, nat_lt, ◌&&◌, option_map}
 use Rattle.std.specs.Option.{option_map_or}
 use Rattle.std.specs.List.{concat}
 use Rattle.std.proofs.lemmas.Bool.Decides.{nat_tests}
+use Rattle.std.proofs.lemmas.List.{nil_from_length}
 use Rattle.std.proofs.lemmas.Option.{slice_get-map}
 use Rattle.uda_mem.proofs.PutLaws.{put-put_next, put-put_before, part-put_apart, part-put_at, length-part, get_or-part, put-nil}
 use Rattle.uda_packet.specs.declared.command.Op.TheVariants as op
@@ -30,17 +31,10 @@ use Rattle.uda_exec.proofs.Requests.{asks, act_shared}
 use Rattle.uda_exec.proofs.Transferred.{check_on-transfer, Passes, passes_if, end-asks, moved-lost, told_there}
 use Rattle.uda_exec.proofs.Units.{slot_in, sound_if_faithful}
 
-part_none : (xs : List ℕ) (at n : ℕ) → n ≡ 0 → part xs at n ≡ []
-unfolding part
-part_none xs at n none = rw none refl
-
 -- an empty range that is carried changes nothing
 put_none : (other left : List ℕ) (at n : ℕ) → n ≡ 0 → put other at (part left at n) ≡ other
-put_none other left at n none = ap (put other at) (part_none left at n none) ∙ put-nil other at
-
-put_empty : (other : List ℕ) (at : ℕ) (bytes : List ℕ) → length bytes ≤ 0 → put other at bytes ≡ other
-put_empty other at [] few = put-nil other at
-put_empty other at (b ∷ bs) few = absurd (omega arith)
+unfolding part
+put_none other left at n none = rw (none, put-nil) refl
 
 -- the same result with another memory
 abbrev with_memory : List ℕ → End × World → End × World
@@ -64,9 +58,7 @@ module _ (c : Command) (units units_after : Units) (memory other left : List ℕ
   passes_by_same (Some act) = ap is_accepted (check_same act)
 
   passes_same : passes_checks c (world_of units other) ≡ passes_checks c (world_of units memory)
-  passes_same =
-      ap (λ (a : Option Act). passes_checks_by c a (world_of units other)) asks_same
-      ∙ passes_by_same (act_of c.op memory)
+  passes_same = rw asks_same (passes_by_same (act_of c.op memory))
 
   module _ (there : List ℕ) where
     -- with this effect of each outcome there
@@ -94,52 +86,43 @@ module _ (c : Command) (units units_after : Units) (memory other left : List ℕ
         → is_sound_at (slice_get units c.unit) ≡ true)
         → TakesEffect c units memory e units_after left → TakesEffect c units other e units_after there)
         → Executes c units memory e units_after left → Executes c units other e units_after there
-    executes_there changes kept takes x =
-        let calls_there : nat_lt 0 (blocks_asked c.op) && passes_checks c (world_of units memory) ≡ true
-        → nat_lt 0 (blocks_asked c.op) && passes_checks c (world_of units other) ≡ true = λ calls.
-        rw passes_same calls in
-        record {
-          answers = x.answers;
-          memory_stays = changes;
-          memory_is_kept = kept;
-          others_stay = x.others_stay;
-          all_attributes_stay = x.all_attributes_stay;
-          modes_stay = x.modes_stay;
-          by_checks = rw passes_same x.by_checks;
-          takes_effect = λ faithful.
-              takes (λ calls. sound_if_faithful (slice_get units c.unit) (faithful (calls_there calls)))
-              (x.takes_effect (λ calls. faithful (calls_there calls)));
-          sound_before = x.sound_before;
-          whole_before = rw passes_same x.whole_before;
-          well_formed_if_sound = x.well_formed_if_sound;
-          takes_effect_if_sound = λ sound.
-              takes (λ calls. x.sound_before c.unit (sound (calls_there calls)))
-              (x.takes_effect_if_sound (λ calls. sound (calls_there calls)));
-        }
+    executes_there changes kept takes x = record {
+      answers = x.answers;
+      memory_stays = changes;
+      memory_is_kept = kept;
+      others_stay = x.others_stay;
+      all_attributes_stay = x.all_attributes_stay;
+      modes_stay = x.modes_stay;
+      by_checks = rw passes_same x.by_checks;
+      takes_effect = λ faithful.
+          takes (λ calls. sound_if_faithful (slice_get units c.unit) (faithful (rw passes_same calls)))
+          (x.takes_effect (λ calls. faithful (rw passes_same calls)));
+      sound_before = x.sound_before;
+      whole_before = rw passes_same x.whole_before;
+      well_formed_if_sound = x.well_formed_if_sound;
+      takes_effect_if_sound = λ sound.
+          takes (λ calls. x.sound_before c.unit (sound (rw passes_same calls)))
+          (x.takes_effect_if_sound (λ calls. sound (rw passes_same calls)));
+    }
 
   module _ (keeps : memory_write_length c.op ≡ 0) where
     effect_by_same : (o : TransferOutcome) (asked : Option Act) → act_of c.op memory ≡ asked
         → with_memory other (effect_by o c asked (world_of units memory)) ≡ effect_by o c asked (world_of units other)
     effect_by_same o None is = refl
-    effect_by_same o (Some act) is =
-        by_check (check_of c act (world_of units memory))
-        ∙ sym (ap (λ (b : CheckResult). does o c act b (world_of units other)) (check_same act))
+    effect_by_same o (Some act) is = rw (check_same act) (by_check (check_of c act (world_of units memory)))
       where
         by_check : (b : CheckResult) → with_memory other (does o c act b (world_of units memory))
             ≡ does o c act b (world_of units other)
         by_check (Rejected refusal) = refl
         by_check (Accepted disk) =
-            let few : length (bytes_on o act disk) ≤ 0 =
-            omega (arith, (asks c.op memory act is).brings (blocks_moved o (due act disk.blocks)), keeps) in
-            ap (λ (m : List ℕ). with_memory m (does o c act (Accepted disk) (world_of units memory)))
-            (sym (put_empty other (buffer_start c.op) (bytes_on o act disk) few))
+            let brings = (asks c.op memory act is).brings (blocks_moved o (due act disk.blocks)) in
+            rw (nil_from_length (bytes_on o act disk) (omega arith), put-nil) refl
 
     executes_unread : Executes c units memory e units_after left → Executes c units other e units_after other
     executes_unread =
         executes_there other (changes_nothing other (buffer_start c.op) (memory_write_length c.op)) (λ none. refl)
         (λ sound t. takes_effect_there other (λ o. o) t t.fits
-        (ap (with_memory other) t.effect_is ∙ effect_by_same t.outcome (act_of c.op memory) refl
-        ∙ sym (ap (λ (a : Option Act). effect_by t.outcome c a (world_of units other)) asks_same))
+        (rw asks_same (ap (with_memory other) t.effect_is ∙ effect_by_same t.outcome (act_of c.op memory) refl))
         refl t.calls (λ done. done))
 
 -- ---- a Read
@@ -172,7 +155,8 @@ module _ (reference unit bytes address lbn : ℕ) (units units_after : Units) (m
 
   -- a Read reads none of its buffer
   none_read : part other address 0 ≡ part memory address 0
-  none_read = part_none other address 0 refl ∙ sym (part_none memory address 0 refl)
+  unfolding part
+  none_read = refl
 
   -- a failed block leaves what the other memory had
   abbrev outcome_there : TransferOutcome → TransferOutcome
@@ -229,9 +213,11 @@ module _ (reference unit bytes address lbn : ℕ) (units units_after : Units) (m
         ap (λ (r : End × World). r.1.memory) is ∙ ap (put memory address) brought in
         let ends : bytes_of e.body ≡ transfer_bytes o bytes =
         ap (λ (r : End × World). bytes_of r.0.body) is ∙ ap (λ (x : End). bytes_of x.body) (sym (end_is o f)) in
-        ap (λ (n : ℕ). put other address (part left address n)) (ap (min bytes) ends ∙ counted)
-        ∙ ap (λ (m : List ℕ). put other address (part m address (length first))) wrote
-        ∙ ap (put other address) (first_written memory address first rest (omega (arith, passes.in_memory, counted)))
+        rw (
+          ap (min bytes) ends ∙ counted,
+          wrote,
+          first_written memory address first rest (omega (arith, passes.in_memory, counted)),
+        ) refl
 
     carries : (o : TransferOutcome) → IsWithinRange count o
         → (e, world_of units_after left) ≡ does o read act (Accepted disk) (world_of units memory)
@@ -245,28 +231,27 @@ module _ (reference unit bytes address lbn : ℕ) (units units_after : Units) (m
         let long = first_long k f.0 in
         let own : List ℕ = bytes_at other (address + 512 * k) 512 in
         let rest : List ℕ = take (bytes - 512 * k) own in
-        carries_first (Lost k block) first (take (bytes - 512 * k) block) f is (brings_lost k block f.0)
-        (omega (arith, long, f.0))
-        ∙ sym (ap (put other address) (brings_lost k own f.0)
-        ∙ sym (put-put_before other address first rest (address + 512 * k) (omega (arith, long)))
-        ∙ ap (λ (m : List ℕ). put m address first)
-        (put_back other (address + 512 * k) (bytes - 512 * k) (omega (arith, passes.in_memory, f.0))))
+        rw (
+          brings_lost k own f.0,
+          ← put-put_before other address first rest (address + 512 * k) (omega (arith, long)),
+          put_back other (address + 512 * k) (bytes - 512 * k) (omega (arith, passes.in_memory, f.0)),
+        )
+        (carries_first (Lost k block) first (take (bytes - 512 * k) block) f is (brings_lost k block f.0)
+        (omega (arith, long, f.0)))
 
     effect_on : (o : TransferOutcome) → IsWithinRange count o
         → (e, world_of units_after left) ≡ does o read act (Accepted disk) (world_of units memory)
         → (e, world_of units_after left_there)
         ≡ does (outcome_there o) read act (Accepted disk) (world_of units other)
     effect_on o f is =
-        ap (with_memory left_there) is ∙ ap (λ (m : List ℕ). with_memory m (does o read act (Accepted disk) (world_of units other)))
-        (carries o f is) ∙ same_effect o f
+        rw (carries o f is) (ap (with_memory (put other address (bytes_on (outcome_there o) act disk))) is ∙ same_effect o f)
       where
         same_effect : (o : TransferOutcome) → IsWithinRange count o
             → with_memory (put other address (bytes_on (outcome_there o) act disk)) (does o read act (Accepted disk) (world_of units other))
             ≡ does (outcome_there o) read act (Accepted disk) (world_of units other)
         same_effect Done f = refl
         same_effect (Lost k block) f =
-            ap (λ (x : End). (x, (does (outcome_there (Lost k block)) read act (Accepted disk) (world_of units other)).1))
-            (ends_same (Lost k block) f)
+            rw (ends_same (Lost k block) f) refl
 
   -- a rejected Read moves nothing
   rejected : (o : TransferOutcome) (refusal : Refusal)
@@ -274,8 +259,7 @@ module _ (reference unit bytes address lbn : ℕ) (units units_after : Units) (m
       → (e, world_of units_after left_there) ≡ does (outcome_there o) read act (Rejected refusal) (world_of units other)
   rejected o refusal is =
       let none : bytes_of e.body ≡ 0 = ap (λ (r : End × World). bytes_of r.0.body) is in
-      ap (with_memory left_there) is ∙ ap (λ (m : List ℕ). with_memory m (does o read act (Rejected refusal) (world_of units memory)))
-      (put_none other left address (min bytes (bytes_of e.body)) (omega (arith, none)))
+      rw (put_none other left address (min bytes (bytes_of e.body)) (omega (arith, none))) (ap (with_memory other) is)
 
   -- the result of its checks
   abbrev checked : Option (Option UnitState) → CheckResult
@@ -403,15 +387,7 @@ module _ (c : Command) (memory other : List ℕ) (r : Reply) (same : length othe
       → ComparesSlot slot c units memory r units_after → ComparesSlot slot c units other r units_after
   slot_there None units units_after x = x
   slot_there (Some None) units units_after x = x
-  slot_there (Some (Some unit)) units units_after x = (
-    x.0,
-    (
-      x.1.0,
-      subst
-          (λ (n : ℕ). ComparesUnit (transfer_refusal (compared c.op) n unit.store.size unit.mode) c unit other r x.0)
-          (sym same) (by_refusal unit x.0 _ x.1.1),
-    ),
-  )
+  slot_there (Some (Some unit)) units units_after x = (x.0, (x.1.0, rw same (by_refusal unit x.0 _ x.1.1)))
 
 -- the compared bytes are those of the command's buffer
 compared_start : (found : Option Transfer)

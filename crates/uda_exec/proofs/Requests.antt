@@ -1,6 +1,6 @@
 -- The request of a command.
 use Rattle.std.proofs.Common.{◌≡◌, ℕ, ◌≤◌, zero-le, true, false, List, length, Option, Some, None, refl, sym, ap, subst, arith, length-take}
-use Rattle.std.specs.Prelude.{IfSome, IsSome}
+use Rattle.std.specs.Prelude.{IfSome}
 use Rattle.std.specs.List.{concat}
 use Rattle.uda_mem.proofs.PutLaws.{part-put_apart}
 use Rattle.uda_packet.specs.declared.command.Op.TheVariants as op
@@ -39,17 +39,13 @@ pub asks : (o : Op) (memory : List ℕ) (act : Act) → act_of o memory ≡ Some
 asks o memory act is = subst (λ (a : Option Act). IfSome a (Asks o)) is (asks_if o memory)
 
 -- any command but Set Controller Characteristics has an action on a unit
-pub asks_some : (o : Op) (memory : List ℕ) → is_controller o ≡ false → IsSome (act_of o memory)
+pub asks_some : (o : Op) (memory : List ℕ) → is_controller o ≡ false → (act : Act) × (act_of o memory ≡ Some act)
 asks_some op.Controller memory speaks = absurd (cc)
-asks_some _ memory speaks = refl
+asks_some _ memory speaks = (_, refl)
 
 pub asks_nothing : (o : Op) (memory : List ℕ) → is_controller o ≡ true → act_of o memory ≡ None
 asks_nothing op.Controller memory is = refl
 asks_nothing _ memory is = absurd (cc)
-
-pub act_from : (asked : Option Act) → IsSome asked → (act : Act) × (asked ≡ Some act)
-act_from None some = absurd (cc)
-act_from (Some act) some = (act, refl)
 
 -- the action depends only on the bytes that the command reads
 pub act_shared : (o : Op) (memory other : List ℕ)

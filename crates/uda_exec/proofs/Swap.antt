@@ -146,7 +146,7 @@ never o memory other is = by (is_controller o) refl
   where
     by : (k : Bool) → is_controller o ≡ k → act_of o other ≡ None
     by true h = asks_nothing o other h
-    by false h = let some = asks_some o memory h in absurd (cc)
+    by false h = let some = (asks_some o memory h).1 in absurd (cc)
 
 command_may_overtake-requests : (a b : FixedCommand) (A B : Act) → Asks a.command.op A → Asks b.command.op B
     → command_may_overtake b.command a.command ≡ true

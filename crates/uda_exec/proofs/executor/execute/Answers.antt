@@ -6,7 +6,7 @@ use Rattle.uda_exec.proofs.Transferred.{Answers-plain}
 use Rattle.uda_disk.proofs.Slots.{set-itself}
 use Rattle.uda_exec.proofs.Units.{idle-controller, idle-rejected, executes_idle, executes_on, slot_in}
 use Rattle.uda_disk.specs.declared.refusal.Refusal.TheVariants.{UnitUnknown, NoVolume}
-use Rattle.uda_exec.proofs.Requests.{asks_some, act_from}
+use Rattle.uda_exec.proofs.Requests.{asks_some}
 use Rattle.uda_exec.proofs.executor.execute.Goals as goal
 
 pub returns-then-is_controller-clause-executes : goal.returns-then-is_controller-clause-executes
@@ -22,7 +22,7 @@ returns-then-unit-units-clause-executes g c =
     ∙ c.if-is_controller.false in
     let past : length c.args.units.now ≤ c.args.command.unit =
     rw c.from-unit.ensures at c.if-unit-units.true in
-    let asks = act_from _ (asks_some c.args.command.op c.args.memory.now speaks) in
+    let asks = asks_some c.args.command.op c.args.memory.now speaks in
     rw c.refuse.ensures (executes_idle c.args.command c.args.units.now c.args.memory.now _
     (idle-rejected c.args.command (world_of c.args.units.now c.args.memory.now) asks.0 UnitUnknown asks.1
     (rw (slot_in c.args.units.now c.args.command.unit None (slice_get_past _ _ past)) refl))
@@ -36,7 +36,7 @@ returns-in-None-clause-executes g c =
     c.if-unit-units.false in
     let empty : slice_get c.args.units.now c.args.command.unit ≡ Some None =
     rw (c.in-None.is, c.from-unit.ensures) at here in
-    let asks = act_from _ (asks_some c.args.command.op c.args.memory.now speaks) in
+    let asks = asks_some c.args.command.op c.args.memory.now speaks in
     rw (c.refuse-in-None.ensures, set-itself _ _ _ here)
     (executes_idle c.args.command c.args.units.now c.args.memory.now _
     (idle-rejected c.args.command (world_of c.args.units.now c.args.memory.now) asks.0 NoVolume asks.1
@@ -50,7 +50,7 @@ returns-in-Some-clause-executes g c =
     let here = slice_get-get_or c.args.units.now c.from-unit.result c.index-units-unit.result
     c.if-unit-units.false in
     let unit = rw (c.in-Some.is, c.from-unit.ensures) at here in
-    let asks = act_from _ (asks_some c.args.command.op c.args.memory.now speaks) in
+    let asks = asks_some c.args.command.op c.args.memory.now speaks in
     rw c.from-unit.ensures (executes_on c.args.command asks.0 c.args.units.now c.args.memory.now _ _ _ _
     asks.1 unit (c.execute.ensures.serves asks.0 asks.1) c.execute.ensures.image_before
     c.execute.ensures.image_if_sound)

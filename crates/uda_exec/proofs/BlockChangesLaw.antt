@@ -31,7 +31,7 @@ use Rattle.uda_exec.specs.SetUnit.{unit_set}
 use Rattle.uda_exec.specs.BlockChanges.{use_on, are_written, LeavesUnit, ChangesUnit, ChangesOnly}
 use Rattle.uda_exec.proofs.Steps.{AreBlocks-due_by, length-due_by, nothing_if}
 use Rattle.uda_exec.proofs.Written.{length-written}
-use Rattle.uda_exec.proofs.Transferred.{asks_it, still, Passes, passes_if, check_on-transfer, extent-asks, free-still}
+use Rattle.uda_exec.proofs.Transferred.{asks_it, still, passes_if, check_on-transfer, extent-asks, free-still}
 use Rattle.uda_exec.proofs.Units.{slot_in}
 use Rattle.uda_exec.proofs.Words.{due_by, put, Command, Op, Kind, Transfer, transfer_of, changes_blocks, Refusal, Disk, Act, in_blocks, lbn_of, blocks_due, UnitState, disk_of, disks_of, block_count, blocks_asked, asks_by, act_of, due, blocks_moved, blocks_written, disk_after, is_lost, is_accepted, Accepted, check_by, check_on, check_in, transfer_refusal, TransferOutcome, Done, Lost, IsWithinRange, World, passes_checks, world_of, End, Executes}
 
@@ -107,7 +107,7 @@ module _ (t : Transfer) (memory : List ℕ) (blocks : List (List ℕ)) (o : Tran
 no_bytes : (t : Transfer) (memory : List ℕ) → block_count t ≡ 0 → bytes_written (Some t) memory ≡ []
 no_bytes t memory few =
     let due_none : blocks_due t [] memory ≡ [] =
-    nil_from_length (blocks_due t [] memory) (length-due_by t [] memory (λ some. absurd (omega arith)) t.kind ∙ few) in
+    nil_from_length (blocks_due t [] memory) (length-due_by t [] memory t.kind (λ reads some. absurd (omega arith)) ∙ few) in
     ap concat (nothing_if (changes_blocks t.kind) (blocks_due t [] memory) due_none)
 
 -- a transfer that passes its checks is on its unit, and has as many bytes to write as its blocks have
@@ -115,9 +115,9 @@ kind_writes : (kind : Kind) → changes_blocks kind ≡ are_written (access_by k
 kind_writes Write = refl
 kind_writes _ = refl
 
-size_is : (t : Transfer) (memory : List ℕ) (size : ℕ) → Passes t (length memory) size
+size_is : (t : Transfer) (memory : List ℕ)
     → length (bytes_written (Some t) memory) ≡ (if are_written (access_by t.kind) then 512 * block_count t else 0)
-size_is t memory size passes = rw (← kind_writes t.kind) (length-written (Some t) memory passes.in_memory)
+size_is t memory = rw (← kind_writes t.kind) (length-written (Some t) memory)
 
 -- ---- a command of the strict profile, on its own unit
 
@@ -203,7 +203,7 @@ module _ (c : Command) (units units_after : Units) (memory memory_left : List �
         let passes = passes_if t (length memory) unit.store.size unit.mode found in
         record {
           on_unit = rw (slot_in units c.unit (Some (Some unit)) here) passes.on_unit;
-          size = size_is t memory unit.store.size passes;
+          size = size_is t memory;
           outcome = it.outcome;
           within = rw is at it.fits.count;
           written = own_blocks act unit (asks_it c t unit memory is) here (rw (checked, found) refl)
@@ -295,7 +295,7 @@ module _ (c : Command) (units units_after : Units) (memory memory_left : List �
         rw (kind_compared c.op) (moved_none (outcome_of v)) in
         record {
           on_unit = rw (slot_in units c.unit (Some (Some unit)) here) passes.on_unit;
-          size = size_is t_of memory unit.store.size passes;
+          size = size_is t_of memory;
           outcome = outcome_of v;
           within = outcome_within t_of v it.fits;
           written = rw (moved, blocks_here units c.unit unit here, blocks_here units_after c.unit unit_after there)

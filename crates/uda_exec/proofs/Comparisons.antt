@@ -44,8 +44,8 @@ compares_block t k found old new memory block window reads is finds = record {
       let here = get_or_from_slice_get old.blocks (t.lbn + k) block [] reads.value in
       rw (div, rest, here) refl)
       (λ i below.
-      ap (λ (w : List ℕ). get_or w i 0) is ∙ get_or-part memory (t.buffer + 512 * k) (count_at t k) i 0 below
-      ∙ ap (λ j. get_or memory j 0) (omega arith)) finds;
+      rw (is, get_or-part memory (t.buffer + 512 * k) (count_at t k) i 0 below) (ap (λ j. get_or memory j 0) (omega arith)))
+      finds;
   blocks_stay = rw reads.state_stays refl;
   failures_stay = rw reads.state_stays refl;
 }
@@ -85,5 +85,4 @@ op_last place ops op past =
 pub op_noted : (op : GuestOp) (place : ℕ) (ops : List GuestOp) → length ops ≤ place
     → op_at (with_op op place ops) place ≡ op
 op_noted guest.Basic place ops past = rw (slice_get_past ops place past) refl
-op_noted guest.SetUnit place ops past = op_last place ops guest.SetUnit past
-op_noted guest.Compare place ops past = op_last place ops guest.Compare past
+op_noted op place ops past = op_last place ops op past

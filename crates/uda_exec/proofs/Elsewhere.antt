@@ -176,7 +176,7 @@ module _ (reference unit bytes address lbn : ℕ) (units units_after : Units) (m
     are_blocks = AreBlocks-part disk.blocks lbn count (λ some. (image some).whole)
 
     all_due : length due_blocks ≡ count
-    all_due = length-due_by t_of disk.blocks memory (λ some. rw (image some).counted passes.on_unit) kind.Read
+    all_due = length-due_by t_of disk.blocks memory kind.Read (λ reads some. rw (image some).counted passes.on_unit)
 
     end_is : (o : TransferOutcome) → IsWithinRange count o
         → reply read (transfer_status o) (plain_body read.op (transfer_bytes o bytes))

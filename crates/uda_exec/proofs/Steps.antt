@@ -21,14 +21,15 @@ length-part_there blocks at n there = grind (arith, length-part blocks at n)
 
 module _ (t : Transfer) (blocks : List (List ℕ)) (memory : List ℕ) where
   -- as many blocks as the count needs; if there are any, those of a Read or an Access are on the unit
-  pub length-due_by : (0 < block_count t → t.lbn + block_count t ≤ length blocks) → (kind : Kind)
+  pub length-due_by : (kind : Kind)
+      → (changes_blocks kind ≡ false → 0 < block_count t → t.lbn + block_count t ≤ length blocks)
       → length (due_by kind t blocks memory) ≡ block_count t
-  length-due_by on_unit Erase = length-replicate (block_count t) (replicate 512 0)
-  length-due_by on_unit Write =
+  length-due_by Erase on_unit = length-replicate (block_count t) (replicate 512 0)
+  length-due_by Write on_unit =
       let bytes = bytes_at memory t.buffer t.bytes in
       length-first_chunks (blocks_for (length bytes)) (bytes ++ replicate 512 0)
       ∙ ap blocks_for (length-bytes_at memory t.buffer t.bytes)
-  length-due_by on_unit _ = length-part_there blocks t.lbn (block_count t) on_unit
+  length-due_by _ on_unit = length-part_there blocks t.lbn (block_count t) (on_unit refl)
 
   -- if the unit's blocks are whole, or there are none to move
   pub AreBlocks-due_by : (0 < block_count t → AreBlocks blocks) → (kind : Kind)
@@ -76,7 +77,7 @@ module _ (t : Transfer) (k : ℕ) (old : StoreState) (memory : List ℕ) (now : 
   front = take k (blocks_due t old.blocks memory)
 
   all_due : length (blocks_due t old.blocks memory) ≡ block_count t
-  all_due = length-due_by t old.blocks memory (λ some. rw image.counted on_unit) t.kind
+  all_due = length-due_by t old.blocks memory t.kind (λ reads some. rw image.counted on_unit)
 
   -- the next block of any content follows the first k
   joins : (x : List ℕ) (new : StoreState) (memory_after : List ℕ)

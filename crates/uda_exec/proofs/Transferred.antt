@@ -294,7 +294,7 @@ module _ (c : Command) (t : Transfer) (unit : UnitState) (memory : List ℕ)
       due_now = blocks_due t unit.store.blocks memory
 
       whole : length due_now ≡ block_count t
-      whole = length-due_by t unit.store.blocks memory (λ some. rw (image some).counted bounds.on_unit) t.kind
+      whole = length-due_by t unit.store.blocks memory t.kind (λ reads some. rw (image some).counted bounds.on_unit)
 
       -- for every outcome: if the blocks and bytes are as it says, the transfer has its complete effect
       takes : (o : TransferOutcome) (front : List (List ℕ)) → blocks_moved o due_now ≡ front

@@ -23,9 +23,8 @@ pub map-set_same : {A B : Type 0} (f : A → B) (units : List (Option A)) (i : �
     → slice_get units i ≡ Some (Some old) → f new ≡ f old
     → map (option_map f) (set units i (Some new)) ≡ map (option_map f) units
 map-set_same f units i old new here same =
-    map-set (option_map f) units i (Some new) ∙ ap (λ b. set (map (option_map f) units) i (Some b)) same
-    ∙ set-itself (map (option_map f) units) i (Some (f old))
-    (slice_get-map (option_map f) units i ∙ ap (option_map (option_map f)) here)
+    rw (map-set (option_map f) units i (Some new), same) (set-itself (map (option_map f) units) i (Some (f old))
+    (slice_get-map (option_map f) units i ∙ ap (option_map (option_map f)) here))
 
 -- a question about a unit's fixed attributes has the same answer if the attributes are the same
 abbrev asked : (FixedAttributes → Bool) → Option (Option FixedAttributes) → Bool
@@ -49,21 +48,22 @@ asked_sure _ = refl
 module _ (old new : List (Option UnitState)) (same : unit_attributes new ≡ unit_attributes old) (u : ℕ) where
   attributes_stay : option_map (option_map attributes_of) (slice_get new u) ≡ option_map (option_map attributes_of)
       (slice_get old u)
-  attributes_stay = sym (slice_get-map (option_map attributes_of) new u)
-      ∙ ap (λ (n : List (Option FixedAttributes)). slice_get n u) same ∙ slice_get-map (option_map attributes_of) old u
+  attributes_stay = rw (
+    ← slice_get-map (option_map attributes_of) new u,
+    ← slice_get-map (option_map attributes_of) old u,
+    same,
+  ) refl
 
   pub faithful_stays : is_faithful (slice_get new u) ≡ is_faithful (slice_get old u)
-  faithful_stays = sym (asked_faithful (slice_get new u)) ∙ ap (asked (λ n. n.faithful)) attributes_stay
-      ∙ asked_faithful (slice_get old u)
+  faithful_stays =
+      rw (← asked_faithful (slice_get new u), ← asked_faithful (slice_get old u), attributes_stay) refl
 
   pub sure_stays : is_infallible (slice_get new u) ≡ is_infallible (slice_get old u)
-  sure_stays = sym (asked_sure (slice_get new u)) ∙ ap (asked never_fails) attributes_stay
-      ∙ asked_sure (slice_get old u)
+  sure_stays = rw (← asked_sure (slice_get new u), ← asked_sure (slice_get old u), attributes_stay) refl
 
 pub sound_if_faithful : (slot : Option (Option UnitState)) → is_faithful slot ≡ true → is_sound_at slot ≡ true
-sound_if_faithful None faithful = refl
-sound_if_faithful (Some None) faithful = refl
 sound_if_faithful (Some (Some unit)) faithful = sound_of_faithful unit.store faithful
+sound_if_faithful _ faithful = refl
 
 -- faithful stores are sound after each request
 pub all_sound : (old new : Units) → unit_attributes new ≡ unit_attributes old → AllFaithful old → AllSound new

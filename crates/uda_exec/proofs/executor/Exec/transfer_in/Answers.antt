@@ -20,5 +20,4 @@ returns-clause-size g c =
     let memory = c.args.memory.now in
     let is = c.transfer_used_at.ensures.transfer ∙ ap (transfer_used_at exec c.args.place) c.len.ensures.len in
     ap size_written is
-    ∙ sym (length-written (transfer_used_at exec c.args.place (length memory)) memory
-    (used_in_memory (guest_at exec c.args.place) exec (length memory)))
+    ∙ sym (length-written (transfer_used_at exec c.args.place (length memory)) memory)

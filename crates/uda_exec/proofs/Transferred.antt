@@ -243,19 +243,13 @@ module _ (c : Command) (t : Transfer) (unit : UnitState) (memory : List ℕ)
         takes_effect_if_sound = λ trusted. takes;
       })
 
-  -- for every store, it succeeds, or fails at a block of its range
-  pub ends_done : EndsTransfer c (reply c SUCCESS (plain_body c.op t.bytes))
-  ends_done = record { outcome = Done; count = tt; end_is = rw is refl }
+  module _ (passed : transfer_refusal t (length memory) unit.store.size unit.mode ≡ None) (new : StoreState)
+      (memory_left : List ℕ) (attributes : KeepsAttributes unit.store new)
+      (changes : ChangesAt memory t.buffer (if changes_memory t.kind then t.bytes else 0) memory_left)
+      (image : is_sound unit.store ≡ true → HasWholeBlocks unit.store.size unit.store.blocks) where
+    abbrev left_unit : UnitState
+    left_unit = record { store = new; mode = unit.mode }
 
-  pub ends_lost : (k : ℕ) → k < block_count t
-      → EndsTransfer c (reply c DRIVE_ERROR (plain_body c.op (512 * k)))
-  ends_lost k inside = record {
-    outcome = Lost k (replicate 512 0);
-    count = rw is (inside, length-replicate {A = ℕ} 512 0);
-    end_is = refl;
-  }
-
-  module _ (passed : transfer_refusal t (length memory) unit.store.size unit.mode ≡ None) where
     free : check_on c act unit memory ≡ Accepted (disk_of unit)
     free = rw (check_on-transfer, passed) refl
 
@@ -263,19 +257,14 @@ module _ (c : Command) (t : Transfer) (unit : UnitState) (memory : List ℕ)
     is_called : 0 < block_count t → nat_lt 0 (blocks_asked c.op) && is_accepted (check_on c act unit memory) ≡ true
     is_called some = let calls : nat_lt 0 (block_count t) ≡ true = grind (arith, nat_tests) in rw (free, is, calls) refl
 
-    bounds : Passes t (length memory) unit.store.size
-    bounds = passes_if t (length memory) unit.store.size unit.mode passed
-
     -- for every store
-    pub serves_moved : (new : StoreState) (memory_left : List ℕ) → KeepsAttributes unit.store new
-        → ChangesAt memory t.buffer (if changes_memory t.kind then t.bytes else 0) memory_left
-        → (status bytes : ℕ) → bytes ≤ t.bytes → EndsTransfer c (reply c status (plain_body c.op bytes))
+    serves_moved : (status bytes : ℕ) → bytes ≤ t.bytes → EndsTransfer c (reply c status (plain_body c.op bytes))
         → ((0 < block_count t → is_sound new ≡ true)
-        → TakesEffectOn c act (Accepted (disk_of unit)) unit memory (reply c status (plain_body c.op bytes))
-        (record { store = new; mode = unit.mode }) memory_left)
-        → (a : Act) → act_of c.op memory ≡ Some a → ServesUnit c a unit memory
-        (reply c status (plain_body c.op bytes)) (record { store = new; mode = unit.mode }) memory_left
-    serves_moved new memory_left attributes changes status bytes few ends takes =
+        → TakesEffectOn c act (Accepted (disk_of unit)) unit memory (reply c status (plain_body c.op bytes)) left_unit
+        memory_left)
+        → (a : Act) → act_of c.op memory ≡ Some a
+        → ServesUnit c a unit memory (reply c status (plain_body c.op bytes)) left_unit memory_left
+    serves_moved status bytes few ends takes =
         asked _ _ _ (record {
           answers = Answers-plain c status bytes (rw is few);
           memory_stays = rw is changes;
@@ -288,13 +277,16 @@ module _ (c : Command) (t : Transfer) (unit : UnitState) (memory : List ℕ)
           takes_effect_if_sound = λ trusted. rw free (takes (λ some. trusted (is_called some)));
         })
 
-    module _ (image : 0 < block_count t → HasWholeBlocks unit.store.size unit.store.blocks) (new : StoreState)
-        (memory_left : List ℕ) (attributes : KeepsAttributes unit.store new) where
+    module _ (called : 0 < block_count t → is_sound new ≡ true) where
       abbrev due_now : List (List ℕ)
       due_now = blocks_due t unit.store.blocks memory
 
+      image_there : 0 < block_count t → HasWholeBlocks unit.store.size unit.store.blocks
+      image_there some = image (sound_before attributes (called some))
+
       whole : length due_now ≡ block_count t
-      whole = length-due_by t unit.store.blocks memory t.kind (λ reads some. rw (image some).counted bounds.on_unit)
+      whole = length-due_by t unit.store.blocks memory t.kind (λ reads some. rw (image_there some).counted
+          (passes_if t (length memory) unit.store.size unit.mode passed).on_unit)
 
       -- for every outcome: if the blocks and bytes are as it says, the transfer has its complete effect
       takes : (o : TransferOutcome) (front : List (List ℕ)) → blocks_moved o due_now ≡ front
@@ -305,8 +297,7 @@ module _ (c : Command) (t : Transfer) (unit : UnitState) (memory : List ℕ)
           → CallsStore o (block_count t) unit.store.failing_call new.failing_call
           → (is_infallible (Some (Some unit)) ≡ true → o ≡ Done)
           → TakesEffectOn c act (Accepted (disk_of unit)) unit memory
-          (reply c (transfer_status o) (plain_body c.op (transfer_bytes o t.bytes)))
-          (record { store = new; mode = unit.mode }) memory_left
+          (reply c (transfer_status o) (plain_body c.op (transfer_bytes o t.bytes))) left_unit memory_left
       takes o front all fits in_memory in_store failed calls infallible =
           let bytes : bytes_on o act (disk_of unit) ≡ bytes_landing t front = data_read-asks t memory t.kind
           (blocks_moved o due_now) ∙ ap (bytes_landing t) all in
@@ -316,7 +307,7 @@ module _ (c : Command) (t : Transfer) (unit : UnitState) (memory : List ℕ)
             outcome = o;
             fits = record { acting = λ lost. refl; count = rw is fits };
             end_is = end-asks t memory c o (disk_of unit) t.kind
-                (AreBlocks-due t unit.store.blocks memory (λ some. (image some).whole)) whole fits;
+                (AreBlocks-due t unit.store.blocks memory (λ some. (image_there some).whole)) whole fits;
             memory_is = rw (is, bytes) in_memory;
             disk_is = rw (extent, blocks, mode-asks t memory t.kind unit.mode, in_store, attributes.size_stays) refl;
             failures_are = failed;
@@ -324,22 +315,30 @@ module _ (c : Command) (t : Transfer) (unit : UnitState) (memory : List ℕ)
             infallible = infallible;
           }
 
-      pub takes_done : Progress t (block_count t) unit.store memory new memory_left
-          → TakesEffectOn c act (Accepted (disk_of unit)) unit memory (reply c SUCCESS (plain_body c.op t.bytes))
-          (record { store = new; mode = unit.mode }) memory_left
-      takes_done h =
-          let all : take (block_count t) due_now ≡ due_now = take_all _ _ (omega (arith, whole)) in
-          let stand = rw all at h.stand in
-          takes Done due_now refl tt stand.in_memory stand.in_store
-          (h.failures_stay ∙ sym (add-zero unit.store.failures)) h.calls (λ never. refl)
+    pub serves_done : ((0 < block_count t → is_sound new ≡ true)
+        → Progress t (block_count t) unit.store memory new memory_left)
+        → (a : Act) → act_of c.op memory ≡ Some a
+        → ServesUnit c a unit memory (reply c SUCCESS (plain_body c.op t.bytes)) left_unit memory_left
+    serves_done moves =
+        serves_moved SUCCESS t.bytes (omega arith) (record { outcome = Done; count = tt; end_is = rw is refl }) (λ called.
+        let all : take (block_count t) (due_now called) ≡ due_now called = take_all _ _ (omega (arith, whole called)) in
+        let stand = rw all at (moves called).stand in
+        takes called Done (due_now called) refl tt stand.in_memory stand.in_store
+        ((moves called).failures_stay ∙ sym (add-zero unit.store.failures)) (moves called).calls (λ never. refl))
 
-      pub takes_lost : (k : ℕ) → k < block_count t → (never_fails_in t.kind unit.store ≡ true → ⊥)
-          → StopsAt t k unit.store memory new memory_left
-          → TakesEffectOn c act (Accepted (disk_of unit)) unit memory
-          (reply c DRIVE_ERROR (plain_body c.op (512 * k)))
-          (record { store = new; mode = unit.mode }) memory_left
-      takes_lost k inside unsure h =
-          takes (Lost k h.left) (take k due_now ++ h.left ∷ [])
-          (moved-lost k h.left due_now (omega (arith, whole)))
-          (inside, h.whole) h.stand.in_memory h.stand.in_store h.counted h.calls
-          (λ never. absurd (unsure (never_fails_there t (length memory) unit.store unit.mode passed never)))
+    -- it may fail at a block of its range
+    pub serves_lost : (k : ℕ) → k < block_count t → (never_fails_in t.kind unit.store ≡ true → ⊥)
+        → ((0 < block_count t → is_sound new ≡ true) → StopsAt t k unit.store memory new memory_left)
+        → (a : Act) → act_of c.op memory ≡ Some a
+        → ServesUnit c a unit memory (reply c DRIVE_ERROR (plain_body c.op (512 * k))) left_unit memory_left
+    serves_lost k inside unsure stops =
+        serves_moved DRIVE_ERROR (512 * k) (omega (arith, inside)) (record {
+          outcome = Lost k (replicate 512 0);
+          count = rw is (inside, length-replicate {A = ℕ} 512 0);
+          end_is = refl;
+        }) (λ called.
+        let h = stops called in
+        takes called (Lost k h.left) (take k (due_now called) ++ h.left ∷ [])
+        (moved-lost k h.left (due_now called) (omega (arith, whole called))) (inside, h.whole) h.stand.in_memory
+        h.stand.in_store h.counted h.calls
+        (λ never. absurd (unsure (never_fails_there t (length memory) unit.store unit.mode passed never))))

@@ -1,5 +1,5 @@
 -- One command on the units of an executor.
-use Rattle.std.proofs.Common.{◌≡◌, ℕ, zero, suc, Bool, true, false, List, ◌∷◌, get_or, set, Option, Some, None, refl, sym, ap, ap₂, ◌∙◌, add-zero}
+use Rattle.std.proofs.Common.{zero-le, ◌≡◌, ℕ, zero, suc, Bool, true, false, List, ◌∷◌, get_or, set, Option, Some, None, refl, sym, ap, ap₂, ◌∙◌, add-zero}
 use Rattle.std.specs.Prelude.{option_map, slice_get, map, ◌&&◌, ◌||◌}
 use Rattle.std.proofs.lemmas.List.{map-set, set-get_or}
 use Rattle.std.proofs.lemmas.Option.{unwrap_or-slice_get, slice_get_within, slice_get-map}
@@ -9,14 +9,14 @@ use Rattle.std.proofs.lemmas.List.Elements.{All-map, All-set, All-weaker}
 use Rattle.uda_packet.specs.declared.command.Op.TheVariants.{Controller}
 use Rattle.uda_disk.specs.Status.{SUCCESS}
 use Rattle.uda_disk.proofs.Slots.{slice_get-set_same, slice_get-set_other, set-itself}
-use Rattle.uda_exec.proofs.Words.{Command, Op, End, Disk, Disks, Act, Refusal, refusal_status, CheckResult, Rejected, Accepted, UnitState, disk_of, disks_of, IsWellFormed, AreWellFormed, reset_unit, is_controller, act_of, World, TransferOutcome, Done, Mode, disks_by, check_of, is_accepted, passes_checks_by, passes_checks, effect_by, effect, reply, plain_body, Answers, FixedAttributes, attributes_of, unit_attributes, is_faithful, is_infallible, world_of, check_on, ServesUnit, Executes, disk_by}
+use Rattle.uda_exec.proofs.Words.{Command, Op, End, Disk, Disks, Act, Refusal, refusal_status, CheckResult, Rejected, Accepted, UnitState, disk_of, disks_of, IsWellFormed, AreWellFormed, reset_unit, is_controller, act_of, TransferOutcome, Done, Mode, disks_by, check_of, is_accepted, passes_checks, effect, reply, plain_body, FixedAttributes, attributes_of, unit_attributes, is_faithful, is_infallible, world_of, check_on, ServesUnit, Executes, disk_by}
 use Rattle.uda_image.specs.Store.{is_sound}
 use Rattle.uda_image.proofs.SoundLaws.{sound_of_faithful}
 use Rattle.uda_disk.specs.Units.{Units, AllFaithful, AllSound, is_sound_at, AreSoundBefore, IsWellFormedIfSound}
 use Rattle.uda_exec.specs.Execution.{TakesEffect, TakesEffectOn}
 use Rattle.uda_exec.proofs.Calls.{go_none}
 use Rattle.uda_exec.proofs.Changes.{changes_nothing, ChangesAt-none}
-use Rattle.uda_exec.proofs.Transferred.{end_of-blank}
+use Rattle.uda_exec.proofs.Transferred.{Answers-plain, end_of-blank}
 
 -- a property of each unit is unchanged if it is unchanged for the unit that is set
 pub map-set_same : {A B : Type 0} (f : A → B) (units : List (Option A)) (i : ℕ) (old new : A)
@@ -77,65 +77,55 @@ sound_set (x ∷ xs) zero old new here before zero sound = ap is_sound_at here �
 sound_set (x ∷ xs) (suc i) old new here before (suc u) sound = sound_set xs i old new here before u sound
 sound_set _ _ old new here before _ sound = sound
 
--- a command without an action on a unit, or a rejected one, changes nothing
-pub record Idle (c : Command) (w : World) (e : End) : Type 0 where
-  pub idle : passes_checks c w ≡ false
-  pub stays : effect Done c w ≡ (e, w)
-
-idle-by : (c : Command) (w : World) (e : End) (asked : Option Act) → act_of c.op w.memory ≡ asked
-    → passes_checks_by c asked w ≡ false → effect_by Done c asked w ≡ (e, w) → Idle c w e
-idle-by c w e asked is idle stays =
-    record { idle = rw is idle; stays = rw is stays }
-
-pub idle-controller : (c : Command) (w : World) → is_controller c.op ≡ true
-    → Idle c w (reply c SUCCESS (plain_body c.op 0))
-idle-controller c w h = by c.op refl h
-  where
-    by : (o : Op) → c.op ≡ o → is_controller o ≡ true → Idle c w (reply c SUCCESS (plain_body c.op 0))
-    by Controller is speaks = idle-by c w _ None (rw is refl) refl (rw is refl)
-    by _ is speaks = absurd (cc)
-
 -- the state of a unit
 pub slot_in : (units : List (Option UnitState)) (u : ℕ) (slot : Option (Option UnitState)) → slice_get units u
     ≡ slot → slice_get (disks_of units) u ≡ option_map (option_map disk_of) slot
 slot_in units u slot here = slice_get-map _ units u ∙ ap (option_map (option_map disk_of)) here
 
--- if a check fails
-pub idle-rejected : (c : Command) (w : World) (act : Act) (refusal : Refusal) → act_of c.op w.memory ≡ Some act
-    → check_of c act w ≡ Rejected refusal → Idle c w (reply c (refusal_status refusal) (plain_body c.op 0))
-idle-rejected c w act refusal asks is = idle-by c w _ (Some act) asks (ap is_accepted is)
-    (rw is (ap (λ (e : End). (e, w)) (end_of-blank c w.memory act (refusal_status refusal) asks)))
+-- a command without an action on a unit, or a rejected one, changes nothing
+executes_idle : (c : Command) (units : List (Option UnitState)) (memory : List ℕ) (status : ℕ)
+    → passes_checks c (world_of units memory) ≡ false
+    → effect Done c (world_of units memory) ≡ (reply c status (plain_body c.op 0), world_of units memory)
+    → Executes c units memory (reply c status (plain_body c.op 0)) units memory
+executes_idle c units memory status idle stays =
+    let takes : TakesEffect c units memory (reply c status (plain_body c.op 0)) units memory = record {
+      outcome = Done;
+      fits = record { acting = λ lost. absurd (cc); count = tt };
+      effect_is = sym stays;
+      failures_are = sym (add-zero _);
+      calls = rw idle (go_none _);
+      infallible = λ never. refl;
+    } in
+    record {
+      answers = Answers-plain c status 0 zero-le;
+      memory_stays = changes_nothing memory _ _;
+      memory_is_kept = λ unread. refl;
+      others_stay = λ u apart. refl;
+      all_attributes_stay = refl;
+      modes_stay = λ transfers. refl;
+      by_checks = record { idle = λ passes_checks. refl; ends = λ transfers acting. absurd (cc) };
+      takes_effect = λ trusted. takes;
+      sound_before = λ u sound. sound;
+      whole_before = λ acting. absurd (cc);
+      well_formed_if_sound = λ whole. whole;
+      takes_effect_if_sound = λ trusted. takes;
+    }
 
-takes_idle : (c : Command) (units : List (Option UnitState)) (memory : List ℕ) (e : End)
-    → Idle c (world_of units memory) e → TakesEffect c units memory e units memory
-takes_idle c units memory e h = record {
-  outcome = Done;
-  fits = record { acting = λ lost. absurd (cc); count = tt };
-  effect_is = sym h.stays;
-  failures_are = sym (add-zero _);
-  calls = rw h.idle (go_none _);
-  infallible = λ never. refl;
-}
+pub executes_controller : (c : Command) (units : List (Option UnitState)) (memory : List ℕ) → is_controller c.op ≡ true
+    → Executes c units memory (reply c SUCCESS (plain_body c.op 0)) units memory
+executes_controller c units memory speaks = by c.op refl speaks
+  where
+    by : (o : Op) → c.op ≡ o → is_controller o ≡ true
+        → Executes c units memory (reply c SUCCESS (plain_body c.op 0)) units memory
+    by Controller is speaks = executes_idle c units memory SUCCESS (rw is refl) (rw is refl)
+    by _ is speaks = absurd (cc)
 
-pub executes_idle : (c : Command) (units : List (Option UnitState)) (memory : List ℕ) (e : End)
-    → Idle c (world_of units memory) e → Answers c e → Executes c units memory e units memory
-executes_idle c units memory e h answers = record {
-  answers = answers;
-  memory_stays = changes_nothing memory _ _;
-  memory_is_kept = λ unread. refl;
-  others_stay = λ u apart. refl;
-  all_attributes_stay = refl;
-  modes_stay = λ transfers. refl;
-  by_checks = record {
-    idle = λ passes_checks. refl;
-    ends = λ transfers acting. absurd (cc);
-  };
-  takes_effect = λ trusted. takes_idle c units memory e h;
-  sound_before = λ u sound. sound;
-  whole_before = λ acting. absurd (cc);
-  well_formed_if_sound = λ whole. whole;
-  takes_effect_if_sound = λ trusted. takes_idle c units memory e h;
-}
+pub executes_rejected : (c : Command) (units : List (Option UnitState)) (memory : List ℕ) (act : Act) (refusal : Refusal)
+    → act_of c.op memory ≡ Some act → check_of c act (world_of units memory) ≡ Rejected refusal
+    → Executes c units memory (reply c (refusal_status refusal) (plain_body c.op 0)) units memory
+executes_rejected c units memory act refusal asks is =
+    executes_idle c units memory (refusal_status refusal) (rw (asks, is) refl) (rw (asks, is)
+    (ap (λ (e : End). (e, world_of units memory)) (end_of-blank c memory act (refusal_status refusal) asks)))
 
 -- the units afterwards, by the unit's disk
 disks_by-disk : (o : TransferOutcome) (u : ℕ) (act : Act) (b : CheckResult) (disks : Disks) (disk : Disk) → slice_get disks u

@@ -20,7 +20,7 @@ use Rattle.uda_exec.specs.Commands.{memory_read_length}
 use Rattle.uda_exec.specs.Execution.{CallsStore, TakesEffect, HasWholeStore, blocks_called}
 use Rattle.uda_exec.specs.GuestExecution.{ExecutesAs}
 use Rattle.uda_exec.specs.BufferUse.{read_length, changed_length, moved_length, bytes_moved}
-use Rattle.uda_exec.specs.Compare.{compared_by, compared, byte_held, IsVerdict, FitsTransfer, ComparesBlocks, ComparesSlot, ComparesUnit}
+use Rattle.uda_exec.specs.Compare.{byte_stored, compared_by, compared, byte_held, IsVerdict, FitsTransfer, ComparesBlocks, ComparesSlot, ComparesUnit}
 use Rattle.uda_exec.specs.declared.compare.Verdict.{Verdict}
 use Rattle.uda_exec.specs.declared.compare.Verdict.TheVariants as verdict
 use Rattle.uda_exec.proofs.Words.{transfer_refusal, put, part, Op, Transfer, transfer_of, End, Act, Command, Refusal, Disk, UnitState, disk_of, CheckResult, Rejected, Accepted, check_by, TransferOutcome, Done, Lost, is_lost, IsWithinRange, transfer_status, transfer_bytes, due, blocks_moved, World, bytes_on, bytes_at, bytes_of, answer_on, end_for, reply, plain_body, blocks_for, HasWholeBlocks, buffer_start, memory_write_length, act_of, passes_checks, passes_checks_by, is_accepted, check_of, check_in, does, effect_by, effect, disks_of, world_of, Executes, ChangesAt, FailureFits, blocks_asked}
@@ -366,22 +366,9 @@ module _ (c : Command) (memory other : List ℕ) (r : Reply) (same : length othe
   by_refusal unit unit_after (Some refusal) x = x
   by_refusal unit unit_after None x =
       let there : ComparesBlocks (compared c.op) x.0 unit.store memory unit_after.store
-      → ComparesBlocks (compared c.op) x.0 unit.store other unit_after.store = λ b. record {
-        verdict = verdict_there (compared c.op) memory other shared x.0 _ x.1.fits b.verdict;
-        blocks_stay = b.blocks_stay;
-        failures_are = b.failures_are;
-      } in (
-        x.0,
-        record {
-          reply_is = x.1.reply_is;
-          fits = x.1.fits;
-          attributes_stay = x.1.attributes_stay;
-          mode_stays = x.1.mode_stays;
-          sound_before = x.1.sound_before;
-          blocks = λ faithful. there (x.1.blocks faithful);
-          blocks_if_sound = λ sound. there (x.1.blocks_if_sound sound);
-        },
-      )
+      → ComparesBlocks (compared c.op) x.0 unit.store other unit_after.store =
+      λ b. search (verdict_there (compared c.op) memory other shared x.0 (byte_stored (compared c.op) unit.store.blocks)
+      x.1.fits) in (x.0, search (there, x.1.sound_before, x.1.blocks, x.1.blocks_if_sound))
 
   slot_there : (slot : Option (Option UnitState)) (units units_after : Units)
       → ComparesSlot slot c units memory r units_after → ComparesSlot slot c units other r units_after

@@ -1,5 +1,5 @@
 -- The request of a command.
-use Rattle.std.proofs.Common.{◌≡◌, ℕ, ◌≤◌, zero-le, true, false, List, length, Option, Some, None, refl, sym, ap, subst, arith, length-take}
+use Rattle.std.proofs.Common.{rules, ◌≡◌, ℕ, ◌≤◌, zero-le, true, false, List, length, Option, Some, None, refl, sym, ap, subst, arith, length-take}
 use Rattle.std.specs.Prelude.{IfSome}
 use Rattle.std.specs.List.{concat}
 use Rattle.uda_mem.proofs.PutLaws.{part-put_apart}
@@ -32,8 +32,7 @@ asks_if (op.Write bytes address lbn) memory = record {
   blank = λ status. refl;
   brings = λ blocks. zero-le;
 }
-asks_if _ memory =
-    record { speaks = refl; moving = refl; count = refl; blank = λ status. refl; brings = λ blocks. zero-le }
+asks_if _ memory = search rules
 
 pub asks : (o : Op) (memory : List ℕ) (act : Act) → act_of o memory ≡ Some act → Asks o act
 asks o memory act is = subst (λ (a : Option Act). IfSome a (Asks o)) is (asks_if o memory)

@@ -275,8 +275,7 @@ module _ (c : Command) (units units_after : Units) (memory memory_left : List �
   module _ (unit unit_after : UnitState) (here : slice_get units c.unit ≡ Some (Some unit))
       (set_is : units_after ≡ set units c.unit (Some unit_after)) where
     there : slice_get units_after c.unit ≡ Some (Some unit_after)
-    there = ap (λ (u : Units). slice_get u c.unit) set_is
-        ∙ slice_get-set_same units c.unit (Some unit_after) (slice_get_within units c.unit (Some unit) here)
+    there = rw set_is (slice_get-set_same units c.unit (Some unit_after) (slice_get_within units c.unit (Some unit) here))
 
     compared_by_check : (found : Option Refusal) (some : Bool)
         → transfer_refusal t_of (length memory) unit.store.size unit.mode ≡ found
@@ -323,8 +322,7 @@ module _ (c : Command) (old new : Units) (memory memory_left : List ℕ) (r : Re
   compared_slot u other None it = same_units old new u it.1
   compared_slot u other (Some None) it = same_units old new u it.1
   compared_slot u other (Some (Some unit)) (unit_after, both) =
-      same_slot old new u (ap (λ (units : Units). slice_get units u) both.0
-      ∙ slice_get-set_other old c.unit u (Some unit_after) other)
+      same_slot old new u (rw both.0 (slice_get-set_other old c.unit u (Some unit_after) other))
 
   on_other : (o : GuestOp) → ExecutesAs o c old memory r new memory_left → (u : ℕ) → u ≢ c.unit
       → LeavesUnit u old new

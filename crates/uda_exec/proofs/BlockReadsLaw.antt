@@ -46,9 +46,8 @@ module _ (o : TransferOutcome) (c : Command) (act : Act) (memory : List ℕ) whe
   looked odd missing (Some (Some disk)) (Some (Some other)) same =
       let is : other ≡ with_blocks other.blocks disk =
       ap₂ (λ (n : ℕ) (m : Mode). record { blocks = other.blocks; size = n; mode = m }) same.0 same.1.0 in
-      ap (λ (d : Disk). seen (check_with odd missing (check_at act (Some (Some d))))) is
-      ∙ accepted (refusal_on (extent_of act) disk.size disk.mode) odd missing disk other.blocks
-      (same_due act disk.blocks other.blocks same.1.1)
+      rw is (accepted (refusal_on (extent_of act) disk.size disk.mode) odd missing disk other.blocks
+      (same_due act disk.blocks other.blocks same.1.1))
   looked odd missing slot other same =
       ap (λ (s : Option (Option Disk)). seen (check_with odd missing (check_at act s))) same
 

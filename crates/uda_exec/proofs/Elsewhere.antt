@@ -1,7 +1,7 @@
 -- A command over another memory of the same length, which has the same bytes where the command reads: it ends the same, it
 -- changes the same units, and the bytes that its end message counts are the same there. The rest of a Read's buffer is left.
 use Rattle.std.proofs.Common.{◌≡◌, ℕ, ◌+◌, ◌-◌, ◌*◌, ◌<◌, ◌≤◌, min, Bool, true, List, [], ◌++◌, length, take, Option, Some, None, refl, sym, ap, subst, ◌∙◌, arith, length-take, append-nil}
-use Rattle.std.specs.Prelude.{slice_get, slice_index, nat_lt, ◌&&◌, option_map}
+use Rattle.std.specs.Prelude.{slice_get, nat_lt, ◌&&◌, option_map}
 use Rattle.std.specs.Option.{option_map_or}
 use Rattle.std.specs.List.{concat}
 use Rattle.std.proofs.lemmas.Bool.Decides.{nat_tests}
@@ -23,7 +23,7 @@ use Rattle.uda_exec.specs.BufferUse.{read_length, changed_length, moved_length, 
 use Rattle.uda_exec.specs.Compare.{byte_stored, compared_by, compared, byte_held, IsVerdict, FitsTransfer, ComparesBlocks, ComparesSlot, ComparesUnit}
 use Rattle.uda_exec.specs.declared.compare.Verdict.{Verdict}
 use Rattle.uda_exec.specs.declared.compare.Verdict.TheVariants as verdict
-use Rattle.uda_exec.proofs.Words.{transfer_refusal, put, part, Op, Transfer, transfer_of, End, Act, Command, Refusal, Disk, UnitState, disk_of, CheckResult, Rejected, Accepted, check_by, TransferOutcome, Done, Lost, is_lost, IsWithinRange, transfer_status, transfer_bytes, due, blocks_moved, World, bytes_on, bytes_at, bytes_of, answer_on, end_for, reply, plain_body, blocks_for, HasWholeBlocks, buffer_start, memory_write_length, act_of, passes_checks, passes_checks_by, is_accepted, check_of, check_in, does, effect_by, effect, disks_of, world_of, Executes, ChangesAt, FailureFits, blocks_asked}
+use Rattle.uda_exec.proofs.Words.{transfer_refusal, put, part, Op, Transfer, transfer_of, End, Act, Command, Refusal, Disk, UnitState, disk_of, CheckResult, Rejected, Accepted, check_by, TransferOutcome, Done, Lost, is_lost, IsWithinRange, transfer_status, transfer_bytes, due, blocks_moved, World, bytes_on, bytes_at, bytes_of, answer_on, end_for, reply, plain_body, blocks_for, HasWholeBlocks, buffer_start, memory_write_length, act_of, passes_checks, passes_checks_by, is_accepted, check_of, check_in, does, effect_by, effect, world_of, Executes, ChangesAt, FailureFits, blocks_asked}
 use Rattle.uda_exec.proofs.Steps.{length-due_by}
 use Rattle.uda_exec.proofs.Blocks.{length-concat_take, concat_push, take_behind, AreBlocks, AreBlocks-part, length-bytes_at, put_back}
 use Rattle.uda_exec.proofs.Changes.{changes_by_put, changes_nothing}
@@ -50,7 +50,7 @@ module _ (c : Command) (units units_after : Units) (memory other left : List ℕ
   asks_same = act_shared c.op memory other shared
 
   check_same : (act : Act) → check_of c act (world_of units other) ≡ check_of c act (world_of units memory)
-  check_same act = ap (λ l. check_in c.op act l (slice_get (disks_of units) c.unit)) same
+  check_same act = rw same refl
 
   passes_by_same : (asked : Option Act)
       → passes_checks_by c asked (world_of units other) ≡ passes_checks_by c asked (world_of units memory)
@@ -131,9 +131,9 @@ module _ (c : Command) (units units_after : Units) (memory other left : List ℕ
 first_written : (xs : List ℕ) (at : ℕ) (first rest : List ℕ) → at + length first ≤ length xs
     → part (put xs at (first ++ rest)) at (length first) ≡ first
 first_written xs at first rest room =
-    ap (λ (m : List ℕ). part m at (length first)) (sym (put-put_next xs at first rest (at + length first) refl))
-    ∙ part-put_apart (put xs at first) (at + length first) rest at (length first) (λ meet. omega arith)
-    ∙ part-put_at xs at (length first) first room refl
+    rw (← put-put_next xs at first rest (at + length first) refl)
+    (part-put_apart (put xs at first) (at + length first) rest at (length first) (λ meet. omega arith)
+    ∙ part-put_at xs at (length first) first room refl)
 
 module _ (reference unit bytes address lbn : ℕ) (units units_after : Units) (memory other left : List ℕ) (e : End)
     (same : length other ≡ length memory) where
@@ -199,9 +199,8 @@ module _ (reference unit bytes address lbn : ℕ) (units units_after : Units) (m
     brings_lost : (k : ℕ) (block : List ℕ) → k < count
         → bytes_on (Lost k block) act disk ≡ first_blocks k ++ take (bytes - 512 * k) block
     brings_lost k block inside =
-        ap (λ (b : List (List ℕ)). take bytes (concat b)) (moved-lost k block due_blocks (omega (arith, all_due)))
-        ∙ ap (take bytes) (concat_push (take k due_blocks) block)
-        ∙ take_behind bytes (512 * k) (first_blocks k) block (first_long k inside) (omega arith)
+        rw (moved-lost k block due_blocks (omega (arith, all_due)), concat_push)
+        (take_behind bytes (512 * k) (first_blocks k) block (first_long k inside) (omega arith))
 
     -- the bytes that the end message counts are carried
     carries_first : (o : TransferOutcome) (first rest : List ℕ) → IsWithinRange count o
@@ -346,8 +345,7 @@ module _ (t : Transfer) (memory other : List ℕ) (shared : part other t.buffer 
   where
     held_same : (i : ℕ) → i < t.bytes → byte_held t other i ≡ byte_held t memory i
     held_same i below =
-        sym (get_or-part other t.buffer t.bytes i 0 below) ∙ ap (λ (p : List ℕ). slice_index p i) shared
-        ∙ get_or-part memory t.buffer t.bytes i 0 below
+        rw (← get_or-part other t.buffer t.bytes i 0 below, ← get_or-part memory t.buffer t.bytes i 0 below, shared) refl
 
     verdict_there : (v : Verdict) (f : ℕ → ℕ) → FitsTransfer t v → IsVerdict t v f (byte_held t memory)
         → IsVerdict t v f (byte_held t other)

@@ -1,6 +1,6 @@
 -- Whichever eligible command is executed first, the result is the same; and what else a driver needs of a
 -- list of commands.
-use Rattle.std.proofs.Common.{◌≡◌, ℕ, ◌+◌, ◌-◌, inl, inr, min, ◌<◌, List, [], ◌∷◌, length, get_or, take, replicate, Option, Some, None, refl, sym, ap, ap₂, subst₂, ◌∙◌, arith}
+use Rattle.std.proofs.Common.{◌≡◌, ℕ, ◌+◌, ◌-◌, inl, inr, min, ◌<◌, List, [], ◌∷◌, length, get_or, take, replicate, Option, Some, None, refl, sym, ap, ap₂, ◌∙◌, arith}
 use Rattle.std.specs.Prelude.{slice_get, option_map}
 use Rattle.std.proofs.lemmas.List.{same_lists, take_at}
 use Rattle.std.proofs.lemmas.Bool.{cases_lt}
@@ -11,7 +11,7 @@ use Rattle.uda_packet.specs.declared.command.Op.TheVariants as op
 use Rattle.uda_disk.proofs.Runs.{first_is_free, runs-push}
 use Rattle.uda_disk.proofs.Swap as item
 use Rattle.uda_disk.proofs.Swap.{Told, judge}
-use Rattle.uda_exec.proofs.Words.{end_for, put, part, Overlap, Command, Op, End, Disks, Act, buffer_start, buffer_length, bytes_at, act_of, World, AreIndependent, FixedCommand, commands_of, effect_of, effects, OrderIsIrrelevant, OneMore, with_bytes, PassesThrough, SameData, DependsOnDataAlone}
+use Rattle.uda_exec.proofs.Words.{end_for, put, part, Overlap, Command, Op, End, Disks, Act, buffer_start, buffer_length, bytes_at, act_of, World, FixedCommand, commands_of, effect_of, effects, OrderIsIrrelevant, OneMore, with_bytes, PassesThrough, SameData, DependsOnDataAlone}
 use Rattle.uda_exec.proofs.Requests.{asks, act_of-put, act_shared}
 use Rattle.uda_exec.proofs.Swap.{swaps, item_of, effect-lands, effect-none, behind, length-told}
 
@@ -27,7 +27,7 @@ order_is_irrelevant xs j x w apart goes at =
     let is_y = get_or_from_slice_get (commands_of xs) i y.command x.command there_command in
     let is_x = get_or_from_slice_get (commands_of xs) j x.command x.command at_command in
     swaps x y v (goes.may_overtake i y.command x.command below there_command at_command)
-    (subst₂ AreIndependent is_y is_x (apart i j x.command below place)))
+    (rw (is_y, is_x) at (apart i j x.command below place)))
 
 pub one_more : OneMore
 one_more xs x w = runs-push effect_of xs x w

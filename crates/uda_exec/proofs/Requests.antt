@@ -1,5 +1,5 @@
 -- The request of a command.
-use Rattle.std.proofs.Common.{rules, ◌≡◌, ℕ, ◌≤◌, zero-le, true, false, List, length, Option, Some, None, refl, sym, ap, subst, arith, length-take}
+use Rattle.std.proofs.Common.{rules, ◌≡◌, ℕ, ◌≤◌, zero-le, true, false, List, length, Some, None, refl, sym, ap, arith, length-take}
 use Rattle.std.specs.Prelude.{IfSome}
 use Rattle.std.specs.List.{concat}
 use Rattle.uda_mem.proofs.PutLaws.{part-put_apart}
@@ -35,7 +35,7 @@ asks_if (op.Write bytes address lbn) memory = record {
 asks_if _ memory = search rules
 
 pub asks : (o : Op) (memory : List ℕ) (act : Act) → act_of o memory ≡ Some act → Asks o act
-asks o memory act is = subst (λ (a : Option Act). IfSome a (Asks o)) is (asks_if o memory)
+asks o memory act is = rw is at (asks_if o memory)
 
 -- any command but Set Controller Characteristics has an action on a unit
 pub asks_some : (o : Op) (memory : List ℕ) → is_controller o ≡ false → (act : Act) × (act_of o memory ≡ Some act)

@@ -7,7 +7,7 @@ use Rattle.std.proofs.lemmas.List.Elements.{All-replicate}
 use Rattle.uda_mem.proofs.PutLaws.{put-nil, put-put_next, length-part}
 use Rattle.uda_packet.specs.declared.end.Kind.TheVariants.{Erase, Write}
 use Rattle.uda_image.specs.StoreLaws.{length-first_chunks}
-use Rattle.uda_exec.proofs.Words.{put, part, Kind, Transfer, changes_blocks, StoreState, KeepsAttributes, HasWholeBlocks, blocks_for, bytes_at, block_count, transfer_buffer_length, changes_memory, ChangesAt, due_by, blocks_due, bytes_landing_of, blocks_stored, Stands, MovesBlock, FailsAtBlock, Progress, StopsAt, MovesOn}
+use Rattle.uda_exec.proofs.Words.{put, part, Kind, Transfer, changes_blocks, StoreState, KeepsAttributes, HasWholeBlocks, blocks_for, bytes_at, block_count, transfer_buffer_length, changes_memory, ChangesAt, due_by, blocks_due, Stands, MovesBlock, FailsAtBlock, Progress, StopsAt, MovesOn}
 use Rattle.uda_exec.proofs.Changes.{changes_again}
 use Rattle.uda_exec.proofs.Calls.{go_none, go_next, fails_then}
 use Rattle.uda_exec.specs.Transfers.{Stand}
@@ -49,7 +49,7 @@ due_by-stays : (kind : Kind) (t : Transfer) (blocks : List (List ℕ)) (memory b
 due_by-stays Erase t blocks memory bytes blocks_written at place = refl
 due_by-stays Write t blocks memory bytes blocks_written at place = rw put-nil refl
 due_by-stays _ t blocks memory bytes blocks_written at place =
-    ap (λ (b : List (List ℕ)). part b t.lbn (block_count t)) (put-nil blocks place)
+    rw put-nil refl
 
 -- more after what is there, if there is any
 more_behind : {A : Type 0} (b : Bool) (xs : List A) (at n : ℕ) (front more : List A) → length front ≡ n
@@ -64,9 +64,8 @@ landing_behind : (b : Bool) (memory : List ℕ) (at count n : ℕ) (front more :
     → put (put memory at (if b then take count front else [])) (at + n)
     (if b then take (count - n) more else []) ≡ put memory at (if b then take count (front ++ more) else [])
 landing_behind true memory at count n front more size fits =
-    ap (λ (z : List ℕ). put (put memory at z) (at + n) (take (count - n) more)) (take_all count front (omega arith))
-    ∙ put-put_next memory at front (take (count - n) more) (at + n) (omega arith)
-    ∙ sym (ap (put memory at) (take_behind count n front more size fits))
+    rw (take_all count front (omega arith), take_behind count n front more size fits)
+    (put-put_next memory at front (take (count - n) more) (at + n) (omega arith))
 landing_behind false memory at count n front more size fits = put-nil _ _
 
 module _ (t : Transfer) (k : ℕ) (old : StoreState) (memory : List ℕ) (now : StoreState) (memory_now : List ℕ)
@@ -87,11 +86,10 @@ module _ (t : Transfer) (k : ℕ) (old : StoreState) (memory : List ℕ) (now : 
       let due = blocks_due t old.blocks memory in
       let bytes = length-concat_take due k (AreBlocks-due t old.blocks memory (λ some. image.whole)) (omega (arith, all_due)) in
       record {
-        in_memory = s.in_memory ∙ ap (λ (m : List ℕ). put m (t.buffer + 512 * k) (bytes_landing_of t k x))
-            h.stand.in_memory ∙ rw concat_push (landing_behind (changes_memory t.kind) memory t.buffer t.bytes
-            (512 * k) (concat front) x bytes (omega arith));
-        in_store = s.in_store ∙ ap (λ (b : List (List ℕ)). put b (t.lbn + k) (blocks_stored t (x ∷ []))) h.stand.in_store
-            ∙ more_behind (changes_blocks t.kind) old.blocks t.lbn k front (x ∷ []) (length-take-le k due (omega (arith, all_due)));
+        in_memory = rw (s.in_memory, h.stand.in_memory, concat_push) (landing_behind (changes_memory t.kind) memory t.buffer
+            t.bytes (512 * k) (concat front) x bytes (omega arith));
+        in_store = rw (s.in_store, h.stand.in_store) (more_behind (changes_blocks t.kind) old.blocks t.lbn k front (x ∷ [])
+            (length-take-le k due (omega (arith, all_due))));
       }
 
   pub progress_next : (new : StoreState) (memory_after : List ℕ)
@@ -117,7 +115,7 @@ module _ (t : Transfer) (k : ℕ) (old : StoreState) (memory : List ℕ) (now : 
     left = m.left;
     whole = m.whole;
     stand = joins m.left new memory_after m.stands;
-    counted = m.counted ∙ ap (λ f. f + 1) h.failures_stay;
+    counted = rw h.failures_stay at m.counted;
     calls = fails_then k _ _ _ h.calls m.calls;
   }
 

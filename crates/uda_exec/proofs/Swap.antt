@@ -120,12 +120,11 @@ module _ (a b : FixedCommand) (w : World) where
     first_b = effect-lands b B w is_b
 
     then_a : effect_of a (effect_of b w).1 ≡ lands a.command (put m at_b rb.0.1) (item.does ia rb.1)
-    then_a = ap (λ (r : End × World). effect_of a r.1) first_b ∙ behind a A w at_b rb.0.1 rb.1 is_a
-        (smaller _ _ _ _ _ _ beside little_b (omega arith))
+    then_a = rw first_b (behind a A w at_b rb.0.1 rb.1 is_a (smaller _ _ _ _ _ _ beside little_b (omega arith)))
 
     then_b : effect_of b (effect_of a w).1 ≡ lands b.command (put m at_a ra.0.1) (item.does ib ra.1)
-    then_b = ap (λ (r : End × World). effect_of b r.1) first_a ∙ behind b B w at_a ra.0.1 ra.1 is_b
-        (smaller _ _ _ _ _ _ (turned _ _ _ _ beside) little_a (omega arith))
+    then_b = rw first_a (behind b B w at_a ra.0.1 ra.1 is_b
+        (smaller _ _ _ _ _ _ (turned _ _ _ _ beside) little_a (omega arith)))
 
     swaps_asked : Swaps effect_of a b w
     swaps_asked =

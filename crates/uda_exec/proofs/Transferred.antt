@@ -1,6 +1,6 @@
 -- The complete effect of a transfer that succeeds, fails or is rejected; and that of a command that moves no
 -- blocks.
-use Rattle.std.proofs.Common.{rules, ◌≡◌, ℕ, ◌+◌, ◌*◌, ◌<◌, ◌≤◌, zero-le, Bool, true, List, [], ◌∷◌, ◌++◌, length, get_or, take, refl, sym, ap, ap₂, subst, ◌∙◌, arith, add-one, add-zero, Option, Some, None, length-take, length-append}
+use Rattle.std.proofs.Common.{rules, ◌≡◌, ℕ, ◌+◌, ◌*◌, ◌<◌, ◌≤◌, zero-le, Bool, true, List, [], ◌∷◌, ◌++◌, length, get_or, take, refl, sym, ap, ap₂, ◌∙◌, arith, add-one, add-zero, Option, Some, None, length-take, length-append}
 use Rattle.std.specs.Prelude.{if◌then◌else◌, nat_lt, replicate, ◌&&◌, ◌||◌, IfSome}
 use Rattle.std.specs.List.{concat}
 use Rattle.std.proofs.lemmas.List.{take_all, take_more, set_at, length-take-le, length-replicate}
@@ -81,7 +81,7 @@ act_of-same o memory none = rw none refl
 
 pub still : (o : Op) (memory : List ℕ) (act : Act) → transfer_of o ≡ None → act_of o memory ≡ Some act → Still o act
 still o memory act none is =
-    subst (λ (a : Option Act). IfSome a (Still o)) (sym (act_of-same o memory none) ∙ is) (still_if o none)
+    let same = sym (act_of-same o memory none) ∙ is in rw same at (still_if o none)
 
 pub check_result-with_buffer_checks : (odd missing : Bool) (found : Option Refusal) (disk : Disk)
     → check_with odd missing (check_by found disk) ≡ check_by (with_buffer_checks odd missing found) disk

@@ -152,8 +152,8 @@ module _ (c : Command) (act : Act) (units : List (Option UnitState)) (memory : L
       let b = check_on c act unit memory in
       let disks_are : disks_of (set units c.unit (Some unit_after)) ≡ disks_by t.outcome
       (record { unit = c.unit; act = act }) b (disks_of units) =
-      map-set _ units c.unit (Some unit_after) ∙ ap (λ (d : Disk). set (disks_of units) c.unit (Some d))
-      t.disk_is ∙ sym (disks_by-disk t.outcome c.unit act b (disks_of units) (disk_of unit) disk_here) in
+      map-set _ units c.unit (Some unit_after)
+      ∙ rw t.disk_is (sym (disks_by-disk t.outcome c.unit act b (disks_of units) (disk_of unit) disk_here)) in
       record {
         outcome = t.outcome;
         fits = rw acting t.fits;
@@ -176,8 +176,7 @@ module _ (c : Command) (act : Act) (units : List (Option UnitState)) (memory : L
     modes_stay = λ transfers. map-set_same (λ (u : UnitState). u.mode) units c.unit unit unit_after here
         (s.mode_stays transfers);
     by_checks = record {
-      idle = λ idle. ap (λ (u : UnitState). set units c.unit (Some u)) (s.unit_stays (sym acting ∙ idle))
-          ∙ set-itself units c.unit (Some unit) here;
+      idle = λ idle. rw (s.unit_stays (sym acting ∙ idle)) (set-itself units c.unit (Some unit) here);
       ends = λ transfers acts_too. s.ends transfers (sym acting ∙ acts_too);
     };
     takes_effect = λ trusted. takes_on (s.takes_effect (λ calls. rw here at (trusted (rw acting calls))));

@@ -1,8 +1,6 @@
-use Rattle.std.proofs.Common.{length, Option, ◌+◌, ◌≤◌, IfSome, ap, sym, subst, ◌∙◌}
-use Rattle.uda_packet.specs.declared.transfer.Transfer.{Transfer}
+use Rattle.std.proofs.Common.{length, ap, sym, ◌∙◌}
 use Rattle.uda_exec.specs.BlockUse.{transfer_used_at, size_written}
 use Rattle.uda_exec.specs.BufferUse.{guest_at}
-use Rattle.uda_exec.specs.Commands.{transfer_buffer_length}
 use Rattle.uda_exec.proofs.Written.{length-written, used_in_memory}
 use Rattle.uda_exec.proofs.executor.Exec.transfer_in.Goals as goal
 
@@ -11,8 +9,7 @@ returns-clause-in_memory g c =
     let exec = c.args.self.now in
     let memory = length c.args.memory.now in
     let is = c.transfer_used_at.ensures.transfer ∙ ap (transfer_used_at exec c.args.place) c.len.ensures.len in
-    subst (λ (used : Option Transfer). IfSome used (λ t. t.buffer + transfer_buffer_length t ≤ memory)) (sym is)
-    (used_in_memory (guest_at exec c.args.place) exec memory)
+    rw is (used_in_memory (guest_at exec c.args.place) exec memory)
 
 pub returns-clause-size : goal.returns-clause-size
 returns-clause-size g c =

@@ -1,5 +1,5 @@
 -- A command changes only blocks that it uses.
-use Rattle.std.proofs.Common.{◌≡◌, ℕ, ◌*◌, ◌+◌, Bool, true, false, List, [], length, set, replicate, Option, Some, None, refl, sym, ap, ap₂, subst, ◌∙◌, arith}
+use Rattle.std.proofs.Common.{◌≡◌, ℕ, ◌*◌, ◌+◌, Bool, true, false, List, [], length, set, replicate, Option, Some, None, refl, sym, ap, ap₂, ◌∙◌, arith}
 use Rattle.std.specs.Prelude.{◌≢◌, ◌&&◌, ◌==◌, nat_lt, is_none, option_map, unwrap_or, slice_get, if◌then◌else◌}
 use Rattle.std.specs.List.{concat}
 use Rattle.std.proofs.lemmas.Bool.{eqb-true, eqb-false}
@@ -17,7 +17,7 @@ use Rattle.uda_disk.specs.Units.{Units, failures_at, is_sound_at}
 use Rattle.uda_disk.specs.Laws.{blocks_in, blocks_at}
 use Rattle.uda_disk.proofs.Callers.{joined_and_cut}
 use Rattle.uda_disk.proofs.Slots.{slice_get-set_same, slice_get-set_other}
-use Rattle.uda_exec.specs.BlockUse.{access_by, transfer_by, used_by, transfer_used, range_of, bytes_written}
+use Rattle.uda_exec.specs.BlockUse.{access_by, transfer_by, used_by, range_of, bytes_written}
 use Rattle.uda_exec.specs.BufferUse.{guest_at}
 use Rattle.uda_exec.specs.Compare.{compared_by, compared, ComparesSlot, ComparesUnit, ComparesUnits, failures_in, FitsTransfer}
 use Rattle.uda_exec.specs.declared.compare.Verdict.{Verdict}
@@ -354,9 +354,4 @@ only_used_blocks_change j old new memory memory_left r x u sound =
     let c = x.command in
     let o = op_at old.guest_ops j in
     let found : guest_at old j ≡ Some (make c o) = ap (option_map (λ (c : Command). make c o)) x.taken.stands in
-    let m = length memory in
-    subst
-    (λ (g : Option GuestCommand). ChangesUnit (use_on u (range_of g (transfer_used g old m)))
-    (bytes_written (transfer_used g old m) memory) u old.units new.units)
-    (sym found)
-    (by_unit c old.units new.units memory memory_left r o x.executes u sound (u == c.unit) refl)
+    rw found (by_unit c old.units new.units memory memory_left r o x.executes u sound (u == c.unit) refl)

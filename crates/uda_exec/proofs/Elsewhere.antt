@@ -1,6 +1,6 @@
 -- A command over another memory of the same length, which has the same bytes where the command reads: it ends the same, it
 -- changes the same units, and the bytes that its end message counts are the same there. The rest of a Read's buffer is left.
-use Rattle.std.proofs.Common.{◌≡◌, ℕ, ◌+◌, ◌-◌, ◌*◌, ◌<◌, ◌≤◌, min, Bool, true, List, [], ◌++◌, length, take, Option, Some, None, refl, sym, ap, subst, ◌∙◌, arith, length-take, append-nil}
+use Rattle.std.proofs.Common.{◌≡◌, ℕ, ◌+◌, ◌-◌, ◌*◌, ◌<◌, ◌≤◌, min, Bool, true, List, [], ◌++◌, length, take, Option, Some, None, refl, sym, ap, ◌∙◌, arith, length-take, append-nil}
 use Rattle.std.specs.Prelude.{slice_get, nat_lt, ◌&&◌, option_map}
 use Rattle.std.specs.Option.{option_map_or}
 use Rattle.std.specs.List.{concat}
@@ -19,7 +19,7 @@ use Rattle.uda_disk.specs.Units.{Units, failing_call_at, is_sound_at}
 use Rattle.uda_exec.specs.Commands.{memory_read_length}
 use Rattle.uda_exec.specs.Execution.{CallsStore, TakesEffect, HasWholeStore, blocks_called}
 use Rattle.uda_exec.specs.GuestExecution.{ExecutesAs}
-use Rattle.uda_exec.specs.BufferUse.{read_length, changed_length, moved_length, bytes_moved}
+use Rattle.uda_exec.specs.BufferUse.{read_length, changed_length, moved_length}
 use Rattle.uda_exec.specs.Compare.{byte_stored, compared_by, compared, byte_held, IsVerdict, FitsTransfer, ComparesBlocks, ComparesSlot, ComparesUnit}
 use Rattle.uda_exec.specs.declared.compare.Verdict.{Verdict}
 use Rattle.uda_exec.specs.declared.compare.Verdict.TheVariants as verdict
@@ -409,9 +409,7 @@ executes_as_elsewhere guest.Basic c units units_after memory other left r same s
   end = x.end;
   reply_is = x.reply_is;
   executes =
-      let counted : bytes_moved r.body ≡ bytes_of x.end.body = ap (λ (r : Reply). bytes_moved r.body) x.reply_is in
-      subst (λ (n : ℕ). Executes c units other x.end units_after
-      (put other (buffer_start c.op) (part left (buffer_start c.op) (min (memory_write_length c.op) n)))) (sym counted)
+      rw x.reply_is
       (executes_by units units_after memory other left x.end same c.op c.reference c.unit shared x.executes);
 }
 executes_as_elsewhere guest.SetUnit c units units_after memory other left r same shared x = record {
@@ -421,10 +419,7 @@ executes_as_elsewhere guest.SetUnit c units units_after memory other left r same
 }
 executes_as_elsewhere guest.Compare c units units_after memory other left r same shared x =
     let start = compared_start (transfer_of c.op) in
-    let bytes =
-    subst (λ (at : ℕ). part other at (compared c.op).bytes ≡ part memory at (compared c.op).bytes) (sym start)
-    shared in
     record {
-      slot = slot_there c memory other r same bytes (slice_get units c.unit) units units_after x.slot;
+      slot = slot_there c memory other r same (rw start shared) (slice_get units c.unit) units units_after x.slot;
       memory_stays = put_none other left (buffer_start c.op) (moved_length guest.Compare c.op r) (omega arith);
     }

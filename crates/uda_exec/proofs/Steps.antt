@@ -1,5 +1,5 @@
 -- A transfer block by block: the effect of the first k blocks, one block more, and the end message.
-use Rattle.std.proofs.Common.{zero-le, ◌≡◌, ℕ, suc, ◌+◌, ◌-◌, ◌*◌, ◌<◌, ◌≤◌, Bool, true, false, List, [], ◌∷◌, ◌++◌, length, get_or, take, replicate, refl, sym, ap, subst, ◌∙◌, arith, add-one}
+use Rattle.std.proofs.Common.{zero-le, ◌≡◌, ℕ, suc, ◌+◌, ◌-◌, ◌*◌, ◌<◌, ◌≤◌, Bool, true, false, List, [], ◌∷◌, ◌++◌, length, get_or, take, replicate, refl, sym, ap, ◌∙◌, arith, add-one}
 use Rattle.std.specs.Prelude.{if◌then◌else◌}
 use Rattle.std.specs.List.{concat}
 use Rattle.std.proofs.lemmas.List.{take_more, take_all, length-take-le, length-replicate}
@@ -138,8 +138,7 @@ progress_none t old memory = record {
 pub from_start : (t : Transfer) (count : ℕ) (old : StoreState) (memory : List ℕ) (new : StoreState)
     → MovesOn t 0 count old new → Progress t count old memory new memory
 from_start t count old memory new moves =
-    subst (λ (k : ℕ). Progress t k old memory new memory) (omega arith)
-    (moves old memory memory (progress_none t old memory))
+    let same : 0 + count ≡ count = omega arith in rw same at (moves old memory memory (progress_none t old memory))
 
 -- the invariant before block k
 pub record OnTheWay (t : Transfer) (k : ℕ) (old now : StoreState) (memory memory_now : List ℕ) : Type 0 where

@@ -1,5 +1,5 @@
 -- The blocks of a range of bytes, and the bytes of a range of blocks.
-use Rattle.std.proofs.Common.{◌≡◌, ℕ, inl, inr, zero, suc, ◌+◌, ◌-◌, ◌*◌, ◌<◌, ◌≤◌, List, [], ◌∷◌, ◌++◌, length, get_or, take, drop, replicate, sym, ap, ◌∙◌, arith, append-nil, length-append, length-drop}
+use Rattle.std.proofs.Common.{◌≡◌, ℕ, inl, inr, zero, suc, ◌+◌, ◌-◌, ◌*◌, ◌<◌, ◌≤◌, List, [], ◌∷◌, ◌++◌, length, take, drop, replicate, ap, ◌∙◌, arith, append-nil, length-append, length-drop}
 use Rattle.std.specs.List.{concat}
 use Rattle.std.specs.Prelude.{All}
 use Rattle.std.proofs.Math.Seq.{take-append-add}
@@ -7,9 +7,9 @@ use Rattle.std.proofs.lemmas.List.Folds.{concat-append}
 use Rattle.uda_disk.proofs.Callers.{length-concat}
 use Rattle.std.proofs.lemmas.List.Elements.{All-nil, All-take, All-drop}
 use Rattle.std.proofs.lemmas.Bool.{cases_lt}
-use Rattle.std.proofs.lemmas.List.{take_all, same_lists, take-take, take-append-le, length-replicate, length-take-le}
+use Rattle.std.proofs.lemmas.List.{drop-take, drop-drop, take_all, take-take, take-append-le, length-replicate, length-take-le}
 use Rattle.uda_mem.specs.Put.{part, put}
-use Rattle.uda_mem.proofs.PutLaws.{length-part, length-part-le, get_or-part, put-part}
+use Rattle.uda_mem.proofs.PutLaws.{length-part, length-part-le, put-part}
 use Rattle.uda_image.specs.StoreLaws.{All-first_chunks}
 use Rattle.uda_disk.specs.Request.{blocks_for, in_blocks, first_block}
 use Rattle.uda_exec.specs.Commands.{bytes_at}
@@ -32,13 +32,10 @@ take-part xs at n m h = take-take m n (drop at xs) h
 -- a part of a part
 pub part-part : {A : Type 0} (xs : List A) (at n i m : ℕ) → i + m ≤ n → part (part xs at n) i m
     ≡ part xs (at + i) m
+unfolding part
 part-part xs at n i m h =
-    let outer = length-part xs at n in
-    same_lists _ _ (length-part (part xs at n) i m ∙ omega arith ∙ sym (length-part xs (at + i) m))
-    (λ k d below.
-    let within : k < m = omega (arith, length-part (part xs at n) i m) in
-    get_or-part (part xs at n) i m k d within ∙ get_or-part xs at n (i + k) d (omega arith)
-    ∙ ap (λ j. get_or xs j d) (omega arith) ∙ sym (get_or-part xs (at + i) m k d within))
+    let more : n ≡ i + (n - i) = omega arith in
+    rw (more, drop-take i (n - i) (drop at xs), drop-drop i at xs) (take-take m (n - i) (drop (at + i) xs) (omega arith))
 
 -- blocks of 512 bytes each
 abbrev pub AreBlocks : List (List ℕ) → Type 0

@@ -1,9 +1,8 @@
 -- Whichever eligible command is executed first, the result is the same; and what else a driver needs of a
 -- list of commands.
-use Rattle.std.proofs.Common.{◌≡◌, ℕ, ◌+◌, ◌-◌, inl, inr, min, ◌<◌, List, [], ◌∷◌, length, get_or, take, replicate, Option, Some, None, refl, sym, ap, ap₂, ◌∙◌, arith}
+use Rattle.std.proofs.Common.{◌≡◌, ℕ, ◌+◌, ◌-◌, min, ◌<◌, List, [], ◌∷◌, length, get_or, take, replicate, Option, Some, None, refl, sym, ap, ap₂, ◌∙◌, arith}
 use Rattle.std.specs.Prelude.{slice_get, option_map}
 use Rattle.std.proofs.lemmas.List.{same_lists, take_at}
-use Rattle.std.proofs.lemmas.Bool.{cases_lt}
 use Rattle.std.proofs.lemmas.List.Elements.{All-head, All-tail}
 use Rattle.std.proofs.lemmas.Option.{slice_get-map, slice_get_within, get_or_from_slice_get}
 use Rattle.uda_mem.proofs.PutLaws.{length-put, length-part, get_or-part, get_or-put_before, get_or-put_at, get_or-put_behind, put-put_comm}
@@ -58,6 +57,11 @@ passes_through (x ∷ rest) at bytes w beside =
     let later = passes_through rest at bytes (effect_of x w).1 (All-tail P x rest beside) in
     rw (now, later) refl
 
+-- an item that two lists share is still shared when the same is put into both
+put_both : (xs ys : List ℕ) (at : ℕ) (new : List ℕ) (i d : ℕ) → i < length xs → i < length ys
+    → get_or xs i d ≡ get_or ys i d → get_or (put xs at new) i d ≡ get_or (put ys at new) i d
+put_both xs ys at new i d within within' shared = grind (arith, get_or-put_before, get_or-put_at, get_or-put_behind)
+
 -- a part that two lists share is still shared when the same is put into both
 part-put_both : (xs ys : List ℕ) (at : ℕ) (new : List ℕ) (a n : ℕ) → length xs ≡ length ys
     → part xs a n ≡ part ys a n → part (put xs at new) a n ≡ part (put ys at new) a n
@@ -69,16 +73,8 @@ part-put_both xs ys at new a n same h =
     let within : a + k < length xs = omega arith in let within' : a + k < length ys = omega arith in
     let shared : get_or xs (a + k) d ≡ get_or ys (a + k) d = sym (get_or-part xs a n k d inside)
     ∙ ap (λ (p : List ℕ). get_or p k d) h ∙ get_or-part ys a n k d inside in
-    get_or-part (put xs at new) a n k d inside ∙ elim (cases_lt (a + k) at) [
-      | inl low ↦ get_or-put_before xs at new (a + k) d within low ∙ shared
-          ∙ sym (get_or-put_before ys at new (a + k) d within' low)
-      | inr from ↦ elim (cases_lt (a + k) (at + length new)) [
-        | inl to ↦ get_or-put_at xs at new (a + k) d within from to
-            ∙ sym (get_or-put_at ys at new (a + k) d within' from to)
-        | inr high ↦ get_or-put_behind xs at new (a + k) d within high ∙ shared
-            ∙ sym (get_or-put_behind ys at new (a + k) d within' high)
-      ]
-    ] ∙ sym (get_or-part (put ys at new) a n k d inside))
+    get_or-part (put xs at new) a n k d inside ∙ put_both xs ys at new (a + k) d within within' shared
+    ∙ sym (get_or-part (put ys at new) a n k d inside))
 
 -- equal bytes of a Write in two memories of one length mean that they share its buffer
 part-shared : (memory other : List ℕ) (at n : ℕ) → length memory ≡ length other → bytes_at memory at n

@@ -1,5 +1,5 @@
 -- The request of a command.
-use Rattle.std.proofs.Common.{rules, ◌≡◌, ℕ, ◌≤◌, zero-le, true, false, List, length, Some, None, refl, sym, ap, arith, length-take}
+use Rattle.std.proofs.Common.{rules, ◌≡◌, ℕ, ◌≤◌, zero-le, false, List, length, Some, refl, sym, ap, arith, length-take}
 use Rattle.std.specs.Prelude.{IfSome}
 use Rattle.std.specs.List.{concat}
 use Rattle.uda_mem.proofs.PutLaws.{part-put_apart}
@@ -41,10 +41,6 @@ asks o memory act is = rw is at (asks_if o memory)
 pub asks_some : (o : Op) (memory : List ℕ) → is_controller o ≡ false → (act : Act) × (act_of o memory ≡ Some act)
 asks_some op.Controller memory speaks = absurd (cc)
 asks_some _ memory speaks = (_, refl)
-
-pub asks_nothing : (o : Op) (memory : List ℕ) → is_controller o ≡ true → act_of o memory ≡ None
-asks_nothing op.Controller memory is = refl
-asks_nothing _ memory is = absurd (cc)
 
 -- the action depends only on the bytes that the command reads
 pub act_shared : (o : Op) (memory other : List ℕ)

@@ -1,19 +1,18 @@
 -- Two independent commands change places if one may overtake the other. Their requests do so on the disks,
 -- and what each writes to memory is outside the buffer of the other.
-use Rattle.std.proofs.Common.{◌≡◌, ℕ, ◌≤◌, Bool, true, false, List, length, Option, Some, None, refl, ap, ap₂, ◌∙◌, arith, zero-le}
+use Rattle.std.proofs.Common.{◌≡◌, ℕ, ◌≤◌, true, List, length, Option, Some, None, refl, ap, ap₂, ◌∙◌, arith, zero-le}
 use Rattle.std.specs.Prelude.{slice_get, option_map}
 use Rattle.uda_mem.proofs.PutLaws.{length-put, put-put_comm, put-nil}
+use Rattle.uda_packet.specs.declared.command.Op.TheVariants as op
 use Rattle.uda_packet.specs.Opcode.{blank_body}
 use Rattle.uda_disk.specs.Status.{SUCCESS}
-use Rattle.uda_disk.specs.Order as disk
-use Rattle.uda_disk.specs.Order.{clash}
 use Rattle.uda_disk.proofs.Runs.{Swaps, swaps_idle, swaps_sym}
 use Rattle.uda_disk.proofs.Swap as item
 use Rattle.uda_disk.proofs.Swap.{Item, Told, judge, told, does_by}
-use Rattle.uda_exec.proofs.Words.{put, Overlap, Command, Op, End, Disk, Disks, Act, Request, CheckResult, Rejected, Accepted, blocks_moved, due, with_buffer_checks, is_odd, is_missing, is_controller, buffer_start, buffer_length, act_of, World, reply, end_for, check_in, does, command_may_overtake, AreIndependent, FixedCommand, effect_of}
+use Rattle.uda_exec.proofs.Words.{put, Overlap, Command, Op, End, Disk, Disks, Act, Request, CheckResult, Rejected, Accepted, blocks_moved, due, with_buffer_checks, is_odd, is_missing, buffer_start, buffer_length, act_of, World, reply, end_for, check_in, does, command_may_overtake, AreIndependent, FixedCommand, effect_of}
 use Rattle.uda_exec.proofs.Changes.{landing-le}
 use Rattle.uda_exec.proofs.Transferred.{check_result-with_buffer_checks}
-use Rattle.uda_exec.proofs.Requests.{Asks, asks, asks_some, asks_nothing, act_of-put}
+use Rattle.uda_exec.proofs.Requests.{Asks, asks, act_of-put}
 
 -- ---- the effect of a command, by its request
 
@@ -141,17 +140,8 @@ module _ (a b : FixedCommand) (w : World) where
 
 -- a command that has no action in one memory has none in another
 never : (o : Op) (memory other : List ℕ) → act_of o memory ≡ None → act_of o other ≡ None
-never o memory other is = by (is_controller o) refl
-  where
-    by : (k : Bool) → is_controller o ≡ k → act_of o other ≡ None
-    by true h = asks_nothing o other h
-    by false h = let some = (asks_some o memory h).1 in absurd (cc)
-
-command_may_overtake-requests : (a b : FixedCommand) (A B : Act) → Asks a.command.op A → Asks b.command.op B
-    → command_may_overtake b.command a.command ≡ true
-    → disk.may_overtake (record { unit = b.command.unit; act = B }) (record { unit = a.command.unit; act = A })
-    ≡ true
-command_may_overtake-requests a b A B ha hb may = rw (hb.speaks, ha.speaks, hb.moving, ha.moving) at may
+never op.Controller memory other is = refl
+never _ memory other is = absurd (cc)
 
 swaps_by : (a b : FixedCommand) (w : World) → command_may_overtake b.command a.command ≡ true → AreIndependent b.command a.command
     → (asked_a asked_b : Option Act) → act_of a.command.op w.memory ≡ asked_a → act_of b.command.op w.memory
@@ -166,8 +156,9 @@ swaps_by a b w may apart (Some A) (Some B) is_a is_b =
     option_map (λ act. record { unit = c.unit; act = act }) asked in
     let apart_there = apart.no_clash w.memory _ _ (ap (request b.command) is_b)
     (ap (request a.command) is_a) in
-    let may_overtake = command_may_overtake-requests a b A B (asks a.command.op w.memory A is_a)
-    (asks b.command.op w.memory B is_b) may in
+    let of_a = asks a.command.op w.memory A is_a in
+    let of_b = asks b.command.op w.memory B is_b in
+    let may_overtake = rw (of_b.speaks, of_a.speaks, of_b.moving, of_a.moving) at may in
     swaps_asked a b w A B is_a is_b apart.no_overlap
     (item.swaps (item_of a A n) (item_of b B n) w.disks may_overtake apart_there)
 

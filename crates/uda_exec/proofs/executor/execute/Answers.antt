@@ -1,7 +1,5 @@
-use Rattle.std.proofs.Common.{◌≡◌, ◌≤◌, false, true, Some, None, length, refl, sym, ◌∙◌}
-use Rattle.std.specs.Prelude.{slice_get}
+use Rattle.std.proofs.Common.{Some, None, refl, sym, ◌∙◌}
 use Rattle.std.proofs.lemmas.Option.{slice_get-get_or, slice_get_past}
-use Rattle.uda_exec.proofs.Words.{is_controller}
 use Rattle.uda_disk.proofs.Slots.{set-itself}
 use Rattle.uda_exec.proofs.Units.{executes_controller, executes_rejected, executes_on, slot_in}
 use Rattle.uda_disk.specs.declared.refusal.Refusal.TheVariants.{UnitUnknown, NoVolume}
@@ -10,28 +8,24 @@ use Rattle.uda_exec.proofs.executor.execute.Goals as goal
 
 pub returns-then-is_controller-clause-executes : goal.returns-then-is_controller-clause-executes
 returns-then-is_controller-clause-executes g c =
-    let is : is_controller c.args.command.op ≡ true = sym c.is_controller.ensures ∙ c.if-is_controller.true in
+    let speaks = sym c.is_controller.ensures ∙ c.if-is_controller.true in
     rw (c.reply.ensures, c.plain_body.ensures)
-    (executes_controller c.args.command c.args.units.now c.args.memory.now is)
+    (executes_controller c.args.command c.args.units.now c.args.memory.now speaks)
 
 pub returns-then-unit-units-clause-executes : goal.returns-then-unit-units-clause-executes
 returns-then-unit-units-clause-executes g c =
-    let speaks : is_controller c.args.command.op ≡ false = sym c.is_controller.ensures
-    ∙ c.if-is_controller.false in
-    let past : length c.args.units.now ≤ c.args.command.unit =
-    rw c.from-unit.ensures at c.if-unit-units.true in
+    let speaks = sym c.is_controller.ensures ∙ c.if-is_controller.false in
+    let past = rw c.from-unit.ensures at c.if-unit-units.true in
     let asks = asks_some c.args.command.op c.args.memory.now speaks in
     rw c.refuse.ensures (executes_rejected c.args.command c.args.units.now c.args.memory.now asks.0 UnitUnknown asks.1
     (rw (slot_in c.args.units.now c.args.command.unit None (slice_get_past _ _ past)) refl))
 
 pub returns-in-None-clause-executes : goal.returns-in-None-clause-executes
 returns-in-None-clause-executes g c =
-    let speaks : is_controller c.args.command.op ≡ false = sym c.is_controller.ensures
-    ∙ c.if-is_controller.false in
+    let speaks = sym c.is_controller.ensures ∙ c.if-is_controller.false in
     let here = slice_get-get_or c.args.units.now c.from-unit.result c.index-units-unit.result
     c.if-unit-units.false in
-    let empty : slice_get c.args.units.now c.args.command.unit ≡ Some None =
-    rw (c.in-None.is, c.from-unit.ensures) at here in
+    let empty = rw (c.in-None.is, c.from-unit.ensures) at here in
     let asks = asks_some c.args.command.op c.args.memory.now speaks in
     rw (c.refuse-in-None.ensures, set-itself _ _ _ here)
     (executes_rejected c.args.command c.args.units.now c.args.memory.now asks.0 NoVolume asks.1
@@ -39,8 +33,7 @@ returns-in-None-clause-executes g c =
 
 pub returns-in-Some-clause-executes : goal.returns-in-Some-clause-executes
 returns-in-Some-clause-executes g c =
-    let speaks : is_controller c.args.command.op ≡ false = sym c.is_controller.ensures
-    ∙ c.if-is_controller.false in
+    let speaks = sym c.is_controller.ensures ∙ c.if-is_controller.false in
     let here = slice_get-get_or c.args.units.now c.from-unit.result c.index-units-unit.result
     c.if-unit-units.false in
     let unit = rw (c.in-Some.is, c.from-unit.ensures) at here in

@@ -1,7 +1,7 @@
 -- Executors that are saved and restored.
-use Rattle.std.proofs.Common.{◌≡◌, ℕ, Bool, true, false, ◌&&◌, List, [], ◌∷◌, length, Option, Some, None, refl, ap, arith}
+use Rattle.std.proofs.Common.{◌≡◌, ℕ, Bool, true, ◌&&◌, List, [], ◌∷◌, length, Option, Some, None, refl, ap, arith}
 use Rattle.std.specs.Prelude.{option_map, slice_get, ◌==◌}
-use Rattle.std.proofs.lemmas.Bool.{eq-eqb}
+use Rattle.std.proofs.lemmas.Bool.Decides.{nat_tests}
 use Rattle.std.proofs.lemmas.List.Elements.{All-cons, All-head, All-tail}
 use Rattle.uda_disk.specs.Units.{UnitState, IsWellFormed, AreWellFormed}
 use Rattle.uda_exec.specs.Drives.{info_of, info_at, drive_in, drives_in, DriveState}
@@ -34,12 +34,8 @@ units_stay_well_formed (info ∷ more) (unit ∷ rest) are =
     All-cons IsWellFormed _ _ (unit_stays_well_formed info unit (All-head IsWellFormed unit rest are))
     (units_stay_well_formed more rest (All-tail IsWellFormed unit rest are))
 
-same_flags : (flag : Bool) → same_flag flag flag ≡ true
-same_flags true = refl
-same_flags false = refl
-
 fits_itself : (size : ℕ) (hard : Bool) → (size == size && same_flag hard hard) ≡ true
-fits_itself size hard = rw (eq-eqb size size refl, same_flags hard) refl
+fits_itself size hard = grind (arith, nat_tests)
 
 -- a unit that is there for one that was saved
 record IsForUnit (saved here : Option UnitState) : Type 0 where

@@ -98,7 +98,11 @@ module _ (t : Transfer) (k count : ℕ) (old : StoreState) (memory : List ℕ) (
       ≡ put old.blocks t.lbn (take (k + count) (replicate (block_count t) (replicate 512 0)))
   erased_on within =
       let block : List ℕ = replicate 512 0 in
-      rw (take-replicate k (block_count t) block (omega arith), take-replicate (k + count) (block_count t) block (omega arith))
+      rw (
+        take-replicate k (block_count t) block (omega arith),
+        take-replicate (k + count) (block_count t) block
+            (omega arith),
+      )
       (put-put_next old.blocks t.lbn (replicate k block) (replicate count block) (t.lbn + k) (rw length-replicate refl)
       ∙ ap (put old.blocks t.lbn) (replicate-append-replicate k count block))
 
@@ -141,7 +145,8 @@ erased_more old now new n done piece from zeros before w =
     let block : List ℕ = replicate 512 0 in
     let both : put (put old.blocks n (replicate done block)) (n + done) (first_chunks 512 piece from)
     ≡ put old.blocks n (replicate (done + piece) block) =
-    rw (zeros, first_chunks-replicate {A = ℕ} 512 piece 0) (put-put_next old.blocks n (replicate done block) (replicate piece block)
+    rw (zeros, first_chunks-replicate {A = ℕ} 512 piece 0) (put-put_next old.blocks n (replicate done block)
+    (replicate piece block)
     (n + done) (rw length-replicate refl) ∙ ap (put old.blocks n) (replicate-append-replicate done piece block)) in
     record {
       written = w.written ∙ rw (before.written, both) refl;

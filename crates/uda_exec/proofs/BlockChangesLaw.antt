@@ -107,7 +107,8 @@ module _ (t : Transfer) (memory : List ℕ) (blocks : List (List ℕ)) (o : Tran
 no_bytes : (t : Transfer) (memory : List ℕ) → block_count t ≡ 0 → bytes_written (Some t) memory ≡ []
 no_bytes t memory few =
     let due_none : blocks_due t [] memory ≡ [] =
-    nil_from_length (blocks_due t [] memory) (length-due_by t [] memory t.kind (λ reads some. absurd (omega arith)) ∙ few) in
+    nil_from_length (blocks_due t [] memory) (length-due_by t [] memory t.kind (λ reads some. absurd (omega arith))
+    ∙ few) in
     ap concat (nothing_if (changes_blocks t.kind) (blocks_due t [] memory) due_none)
 
 -- a transfer that passes its checks is on its unit, and has as many bytes to write as its blocks have
@@ -169,7 +170,8 @@ module _ (c : Command) (units units_after : Units) (memory memory_left : List �
         record { blocks_stay = blocks ∙ put-nil (unit_blocks units c.unit) (lbn_of act); failures_stay = omega arith }
 
   -- a command that is no transfer
-  still_by : (asked : Option Act) → act_of c.op memory ≡ asked → transfer_of c.op ≡ None → LeavesUnit c.unit units units_after
+  still_by : (asked : Option Act) → act_of c.op memory ≡ asked → transfer_of c.op ≡ None
+      → LeavesUnit c.unit units units_after
   still_by None asks none = rejected (rw asks refl)
   still_by (Some act) asks none = by_slot (slice_get units c.unit) refl
     where
@@ -275,7 +277,8 @@ module _ (c : Command) (units units_after : Units) (memory memory_left : List �
   module _ (unit unit_after : UnitState) (here : slice_get units c.unit ≡ Some (Some unit))
       (set_is : units_after ≡ set units c.unit (Some unit_after)) where
     there : slice_get units_after c.unit ≡ Some (Some unit_after)
-    there = rw set_is (slice_get-set_same units c.unit (Some unit_after) (slice_get_within units c.unit (Some unit) here))
+    there = rw set_is (slice_get-set_same units c.unit (Some unit_after)
+        (slice_get_within units c.unit (Some unit) here))
 
     compared_by_check : (found : Option Refusal) (some : Bool)
         → transfer_refusal t_of (length memory) unit.store.size unit.mode ≡ found

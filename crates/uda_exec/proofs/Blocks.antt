@@ -35,7 +35,8 @@ pub part-part : {A : Type 0} (xs : List A) (at n i m : ℕ) → i + m ≤ n → 
 unfolding part
 part-part xs at n i m h =
     let more : n ≡ i + (n - i) = omega arith in
-    rw (more, drop-take i (n - i) (drop at xs), drop-drop i at xs) (take-take m (n - i) (drop (at + i) xs) (omega arith))
+    rw (more, drop-take i (n - i) (drop at xs), drop-drop i at xs)
+    (take-take m (n - i) (drop (at + i) xs) (omega arith))
 
 -- blocks of 512 bytes each
 abbrev pub AreBlocks : List (List ℕ) → Type 0

@@ -8,7 +8,8 @@ go_none (Some left) = record { before = λ some. some; sooner = ap Some (omega a
 
 pub go_more : (n m : ℕ) (old now new : Option ℕ) → CallsSucceed n old now → CallsSucceed m now new
     → CallsSucceed (n + m) old new
-go_more n m None now new before more = let last = rw before.sooner at more in record { before = tt; sooner = last.sooner }
+go_more n m None now new before more = let last = rw before.sooner at more
+    in record { before = tt; sooner = last.sooner }
 go_more n m (Some left) now new before more =
     let last = rw before.sooner at more in
     record {
@@ -16,7 +17,8 @@ go_more n m (Some left) now new before more =
       sooner = last.sooner ∙ ap Some (omega arith);
     }
 
-pub go_next : (n : ℕ) (old now new : Option ℕ) → CallsSucceed n old now → CallsSucceed 1 now new → CallsSucceed (suc n) old new
+pub go_next : (n : ℕ) (old now new : Option ℕ) → CallsSucceed n old now → CallsSucceed 1 now new → CallsSucceed
+    (suc n) old new
 go_next n old now new before next = rw (← add-one) (go_more n 1 old now new before next)
 
 pub fails_then : (n : ℕ) (old now new : Option ℕ) → CallsSucceed n old now → FailsAtCall 0 now new

@@ -16,7 +16,13 @@ pub passes_next : (pending : List Command) (place n : ℕ) (command d : Command)
     → n < length (take place pending) → command_may_overtake (get_or (take place pending) n d) command ≡ true
     → PassesFirst pending n command → PassesFirst pending (n + 1) command
 passes_next pending place n command d inside may before i older below at =
-    grind (arith, before i older, get_or-take place pending n d, get_or_from_slice_get pending i older d, length-take place pending)
+    grind (
+      arith,
+      before i older,
+      get_or-take place pending n d,
+      get_or_from_slice_get pending i older d,
+      length-take place pending,
+    )
 
 -- a command that may overtake all before its index is eligible
 pub goes_if : (pending : List Command) (place n : ℕ) (d : Command) → place < length pending

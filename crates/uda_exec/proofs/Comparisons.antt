@@ -44,7 +44,8 @@ compares_block t k found old new memory block window reads is finds = record {
       let here = get_or_from_slice_get old.blocks (t.lbn + k) block [] reads.value in
       rw (div, rest, here) refl)
       (λ i below.
-      rw (is, get_or-part memory (t.buffer + 512 * k) (count_at t k) i 0 below) (ap (λ j. get_or memory j 0) (omega arith)))
+      rw (is, get_or-part memory (t.buffer + 512 * k) (count_at t k) i 0 below)
+      (ap (λ j. get_or memory j 0) (omega arith)))
       finds;
   blocks_stay = rw reads.state_stays refl;
   failures_stay = rw reads.state_stays refl;

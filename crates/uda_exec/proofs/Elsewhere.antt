@@ -1,5 +1,6 @@
--- A command over another memory of the same length, which has the same bytes where the command reads: it ends the same, it
--- changes the same units, and the bytes that its end message counts are the same there. The rest of a Read's buffer is left.
+-- A command over another memory of the same length, which has the same bytes where the command reads: it ends the
+-- same, it changes the same units, and the bytes that its end message counts are the same there. The rest of a Read's
+-- buffer is left.
 use Rattle.std.proofs.Common.{◌≡◌, ℕ, ◌+◌, ◌-◌, ◌*◌, ◌<◌, ◌≤◌, min, Bool, true, List, [], ◌++◌, length, take, Option, Some, None, refl, sym, ap, ◌∙◌, arith, length-take, append-nil}
 use Rattle.std.specs.Prelude.{slice_get, nat_lt, ◌&&◌, option_map}
 use Rattle.std.specs.Option.{option_map_or}
@@ -62,7 +63,8 @@ module _ (c : Command) (units units_after : Units) (memory other left : List ℕ
 
   module _ (there : List ℕ) where
     -- with this effect of each outcome there
-    takes_effect_there : (outcome_there : TransferOutcome → TransferOutcome) (t : TakesEffect c units memory e units_after left)
+    takes_effect_there : (outcome_there : TransferOutcome → TransferOutcome)
+        (t : TakesEffect c units memory e units_after left)
         → FailureFits (outcome_there t.outcome) (blocks_asked c.op) (passes_checks c (world_of units memory))
         → (e, world_of units_after there) ≡ effect (outcome_there t.outcome) c (world_of units other)
         → is_lost (outcome_there t.outcome) ≡ is_lost t.outcome
@@ -243,10 +245,12 @@ module _ (reference unit bytes address lbn : ℕ) (units units_after : Units) (m
         → (e, world_of units_after left_there)
         ≡ does (outcome_there o) read act (Accepted disk) (world_of units other)
     effect_on o f is =
-        rw (carries o f is) (ap (with_memory (put other address (bytes_on (outcome_there o) act disk))) is ∙ same_effect o f)
+        rw (carries o f is) (ap (with_memory (put other address (bytes_on (outcome_there o) act disk))) is
+        ∙ same_effect o f)
       where
         same_effect : (o : TransferOutcome) → IsWithinRange count o
-            → with_memory (put other address (bytes_on (outcome_there o) act disk)) (does o read act (Accepted disk) (world_of units other))
+            → with_memory (put other address (bytes_on (outcome_there o) act disk))
+            (does o read act (Accepted disk) (world_of units other))
             ≡ does (outcome_there o) read act (Accepted disk) (world_of units other)
         same_effect Done f = refl
         same_effect (Lost k block) f =
@@ -275,9 +279,11 @@ module _ (reference unit bytes address lbn : ℕ) (units units_after : Units) (m
         → (e, world_of units_after left_there) ≡ does (outcome_there o) read act (checked slot) (world_of units other)
     effect_by_slot o f None here is = rejected o UnitUnknown is
     effect_by_slot o f (Some None) here is = rejected o NoVolume is
-    effect_by_slot o f (Some (Some u)) here is = by_refusal (transfer_refusal t_of (length memory) u.store.size u.mode) refl
+    effect_by_slot o f (Some (Some u)) here is = by_refusal (transfer_refusal t_of
+        (length memory) u.store.size u.mode) refl
       where
-        checks : checked (Some (Some u)) ≡ check_by (transfer_refusal t_of (length memory) u.store.size u.mode) (disk_of u)
+        checks : checked (Some (Some u)) ≡ check_by (transfer_refusal t_of (length memory) u.store.size u.mode)
+            (disk_of u)
         checks = check_on-transfer read t_of u memory refl
 
         by_refusal : (found : Option Refusal) → transfer_refusal t_of (length memory) u.store.size u.mode ≡ found
@@ -291,11 +297,15 @@ module _ (reference unit bytes address lbn : ℕ) (units units_after : Units) (m
             (λ some. (rw here at (whole passes)) (rw here at (sound (calls (grind (arith, nat_tests))))))
             o f (rw (checks, found) at is))
 
-    takes_read : TakesEffect read units memory e units_after left → TakesEffect read units other e units_after left_there
+    takes_read : TakesEffect read units memory e units_after left
+        → TakesEffect read units other e units_after left_there
     takes_read t =
         let slot = slice_get-map (option_map disk_of) units unit in
         takes_effect_there read units units_after memory other left e same none_read left_there outcome_there t
-        (record { acting = λ lost. t.fits.acting (sym (lost_same t.outcome) ∙ lost); count = within_there t.outcome t.fits.count })
+        (record {
+          acting = λ lost. t.fits.acting (sym (lost_same t.outcome) ∙ lost);
+          count = within_there t.outcome t.fits.count;
+        })
         (rw (same, slot) (effect_by_slot t.outcome t.fits.count (slice_get units unit) refl (rw slot at t.effect_is)))
         (lost_same t.outcome) (rw (calls_same t.outcome) t.calls) (done_same t.outcome)
       where
@@ -345,7 +355,11 @@ module _ (t : Transfer) (memory other : List ℕ) (shared : part other t.buffer 
   where
     held_same : (i : ℕ) → i < t.bytes → byte_held t other i ≡ byte_held t memory i
     held_same i below =
-        rw (← get_or-part other t.buffer t.bytes i 0 below, ← get_or-part memory t.buffer t.bytes i 0 below, shared) refl
+        rw (
+          ← get_or-part other t.buffer t.bytes i 0 below,
+          ← get_or-part memory t.buffer t.bytes i 0 below,
+          shared,
+        ) refl
 
     verdict_there : (v : Verdict) (f : ℕ → ℕ) → FitsTransfer t v → IsVerdict t v f (byte_held t memory)
         → IsVerdict t v f (byte_held t other)

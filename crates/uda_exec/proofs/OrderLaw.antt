@@ -37,7 +37,10 @@ passes_one : (x : FixedCommand) (w : World) (at : ℕ) (bytes : List ℕ)
     → (asked : Option Act) → act_of x.command.op w.memory ≡ asked → effect_of x (with_bytes w at bytes)
     ≡ ((effect_of x w).0, with_bytes (effect_of x w).1 at bytes)
 passes_one x w at bytes beside None is =
-    rw (effect-none x (with_bytes w at bytes) (act_of-put x.command.op w.memory at bytes beside ∙ is), effect-none x w is) refl
+    rw (
+      effect-none x (with_bytes w at bytes) (act_of-put x.command.op w.memory at bytes beside ∙ is),
+      effect-none x w is,
+    ) refl
 passes_one x w at bytes beside (Some act) is =
     let c = x.command in
     let it = item_of x act (length w.memory) in

@@ -84,11 +84,14 @@ module _ (t : Transfer) (k : ℕ) (old : StoreState) (memory : List ℕ) (now : 
       → Stand t (front ++ x ∷ []) old memory new memory_after
   joins x new memory_after s =
       let due = blocks_due t old.blocks memory in
-      let bytes = length-concat_take due k (AreBlocks-due t old.blocks memory (λ some. image.whole)) (omega (arith, all_due)) in
+      let bytes = length-concat_take due k (AreBlocks-due t old.blocks memory (λ some. image.whole))
+      (omega (arith, all_due)) in
       record {
-        in_memory = rw (s.in_memory, h.stand.in_memory, concat_push) (landing_behind (changes_memory t.kind) memory t.buffer
+        in_memory = rw (s.in_memory, h.stand.in_memory, concat_push)
+            (landing_behind (changes_memory t.kind) memory t.buffer
             t.bytes (512 * k) (concat front) x bytes (omega arith));
-        in_store = rw (s.in_store, h.stand.in_store) (more_behind (changes_blocks t.kind) old.blocks t.lbn k front (x ∷ [])
+        in_store = rw (s.in_store, h.stand.in_store) (more_behind (changes_blocks t.kind) old.blocks t.lbn k front
+            (x ∷ [])
             (length-take-le k due (omega (arith, all_due))));
       }
 
@@ -126,7 +129,8 @@ nothing_if false xs none = refl
 pub progress_none : (t : Transfer) (old : StoreState) (memory : List ℕ) → Progress t 0 old memory old memory
 progress_none t old memory = record {
   stand = record {
-    in_memory = sym (ap (put memory t.buffer) (nothing_if (changes_memory t.kind) _ (take_all {A = ℕ} t.bytes [] zero-le))
+    in_memory = sym (ap (put memory t.buffer) (nothing_if (changes_memory t.kind) _
+        (take_all {A = ℕ} t.bytes [] zero-le))
         ∙ put-nil memory t.buffer);
     in_store = sym (ap (put old.blocks t.lbn) (nothing_if (changes_blocks t.kind) [] refl) ∙ put-nil old.blocks t.lbn);
   };
@@ -147,7 +151,8 @@ pub record OnTheWay (t : Transfer) (k : ℕ) (old now : StoreState) (memory memo
   pub changes : ChangesAt memory t.buffer (if changes_memory t.kind then t.bytes else 0) memory_now
   pub moves : (0 < block_count t → is_sound now ≡ true) → Progress t k old memory now memory_now
 
-pub both_natures : {old now new : StoreState} → KeepsAttributes old now → KeepsAttributes now new → KeepsAttributes old new
+pub both_natures : {old now new : StoreState} → KeepsAttributes old now → KeepsAttributes now new
+    → KeepsAttributes old new
 both_natures was is = record {
   size_stays = is.size_stays ∙ was.size_stays;
   faithful_stays = is.faithful_stays ∙ was.faithful_stays;

@@ -143,7 +143,8 @@ never : (o : Op) (memory other : List ℕ) → act_of o memory ≡ None → act_
 never op.Controller memory other is = refl
 never _ memory other is = absurd (cc)
 
-swaps_by : (a b : FixedCommand) (w : World) → command_may_overtake b.command a.command ≡ true → AreIndependent b.command a.command
+swaps_by : (a b : FixedCommand) (w : World) → command_may_overtake b.command a.command ≡ true
+    → AreIndependent b.command a.command
     → (asked_a asked_b : Option Act) → act_of a.command.op w.memory ≡ asked_a → act_of b.command.op w.memory
     ≡ asked_b → Swaps effect_of a b w
 swaps_by a b w may apart asked_a None is_a is_b = swaps_idle effect_of a b _
@@ -163,6 +164,7 @@ swaps_by a b w may apart (Some A) (Some B) is_a is_b =
     (item.swaps (item_of a A n) (item_of b B n) w.disks may_overtake apart_there)
 
 -- b is the older of the two
-pub swaps : (a b : FixedCommand) (w : World) → command_may_overtake b.command a.command ≡ true → AreIndependent b.command a.command
+pub swaps : (a b : FixedCommand) (w : World) → command_may_overtake b.command a.command ≡ true
+    → AreIndependent b.command a.command
     → Swaps effect_of a b w
 swaps a b w may apart = swaps_by a b w may apart _ _ refl refl

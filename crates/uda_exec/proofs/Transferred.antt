@@ -207,7 +207,8 @@ module _ (c : Command) (t : Transfer) (unit : UnitState) (memory : List ℕ)
   extent = extent-asks t memory t.kind
 
   -- the result of its checks
-  pub check_on-transfer : check_on c act unit memory ≡ check_by (transfer_refusal t (length memory) unit.store.size unit.mode)
+  pub check_on-transfer : check_on c act unit memory ≡ check_by
+      (transfer_refusal t (length memory) unit.store.size unit.mode)
       (disk_of unit)
   check_on-transfer = rw (is, extent) (check_result-with_buffer_checks _ _
       (first_failed_check (extent_in t) unit.store.size unit.mode) (disk_of unit))
@@ -320,7 +321,8 @@ module _ (c : Command) (t : Transfer) (unit : UnitState) (memory : List ℕ)
         → (a : Act) → act_of c.op memory ≡ Some a
         → ServesUnit c a unit memory (reply c SUCCESS (plain_body c.op t.bytes)) left_unit memory_left
     serves_done moves =
-        serves_moved SUCCESS t.bytes (omega arith) (record { outcome = Done; count = tt; end_is = rw is refl }) (λ called.
+        serves_moved SUCCESS t.bytes (omega arith) (record { outcome = Done; count = tt; end_is = rw is refl })
+        (λ called.
         let all : take (block_count t) (due_now called) ≡ due_now called = take_all _ _ (omega (arith, whole called)) in
         let stand = rw all at (moves called).stand in
         takes called Done (due_now called) refl tt stand.in_memory stand.in_store

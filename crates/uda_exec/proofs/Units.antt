@@ -120,7 +120,8 @@ executes_controller c units memory speaks = by c.op refl speaks
     by Controller is speaks = executes_idle c units memory SUCCESS (rw is refl) (rw is refl)
     by _ is speaks = absurd (cc)
 
-pub executes_rejected : (c : Command) (units : List (Option UnitState)) (memory : List ℕ) (act : Act) (refusal : Refusal)
+pub executes_rejected : (c : Command) (units : List (Option UnitState)) (memory : List ℕ) (act : Act)
+    (refusal : Refusal)
     → act_of c.op memory ≡ Some act → check_of c act (world_of units memory) ≡ Rejected refusal
     → Executes c units memory (reply c (refusal_status refusal) (plain_body c.op 0)) units memory
 executes_rejected c units memory act refusal asks is =
@@ -128,7 +129,8 @@ executes_rejected c units memory act refusal asks is =
     (ap (λ (e : End). (e, world_of units memory)) (end_of-blank c memory act (refusal_status refusal) asks)))
 
 -- the units afterwards, by the unit's disk
-disks_by-disk : (o : TransferOutcome) (u : ℕ) (act : Act) (b : CheckResult) (disks : Disks) (disk : Disk) → slice_get disks u
+disks_by-disk : (o : TransferOutcome) (u : ℕ) (act : Act) (b : CheckResult) (disks : Disks) (disk : Disk)
+    → slice_get disks u
     ≡ Some (Some disk)
     → disks_by o (record { unit = u; act = act }) b disks ≡ set disks u (Some (disk_by o act b disk))
 disks_by-disk o u act (Accepted d) disks disk here = refl

@@ -64,7 +64,8 @@ zeros_joined k =
 
 module _ (t : Transfer) (memory : List ℕ) (skip n : ℕ) (within : 512 * skip + n ≤ size_written (Some t)) where
   pub write_written : t.kind ≡ Write → t.buffer + t.bytes ≤ length memory → (at : ℕ) → at ≡ min (512 * skip) t.bytes
-      → take n (part memory (t.buffer + at) (t.bytes - at) ++ replicate n 0) ≡ part (bytes_written (Some t) memory) (512 * skip) n
+      → take n (part memory (t.buffer + at) (t.bytes - at) ++ replicate n 0) ≡ part (bytes_written (Some t) memory)
+      (512 * skip) n
   unfolding part
   write_written is room at least =
       let below : 512 * skip + n ≤ 512 * block_count t = rw is at within in
@@ -82,7 +83,8 @@ module _ (t : Transfer) (memory : List ℕ) (skip n : ℕ) (within : 512 * skip 
             rw (same, ← due) (rest_of buffer (512 * skip) n (omega (arith, size)) (rw size below))
       ])
 
-  pub erase_written : t.kind ≡ Erase → take n ([] ++ replicate n 0) ≡ part (bytes_written (Some t) memory) (512 * skip) n
+  pub erase_written : t.kind ≡ Erase → take n ([] ++ replicate n 0) ≡ part (bytes_written (Some t) memory)
+      (512 * skip) n
   unfolding part
   erase_written is =
       let below : 512 * skip + n ≤ 512 * block_count t = rw is at within in
@@ -95,7 +97,8 @@ module _ (t : Transfer) (memory : List ℕ) (skip n : ℕ) (within : 512 * skip 
       ) refl
 
   -- a transfer that writes no blocks has no bytes
-  pub none_written : changes_blocks t.kind ≡ false → take n ([] ++ replicate n 0) ≡ part (bytes_written (Some t) memory) (512 * skip) n
+  pub none_written : changes_blocks t.kind ≡ false → take n ([] ++ replicate n 0) ≡ part
+      (bytes_written (Some t) memory) (512 * skip) n
   unfolding part
   none_written is = let none : n ≡ 0 = omega (arith, (rw is at within)) in rw none refl
 
@@ -115,15 +118,18 @@ length-written (Some t) memory = by_writes (changes_blocks t.kind) refl where
 pub used_in_memory : (g : Option GuestCommand) (exec : ExecState) (memory : ℕ)
     → IfSome (transfer_used g exec memory) (λ t. t.buffer + transfer_buffer_length t ≤ memory)
 used_in_memory None exec memory = tt
-used_in_memory (Some g) exec memory = by_parts (transfer_by g.op g.command.op) (info_at (slice_get exec.units g.command.unit)) where
-  by_parts : (t : Option Transfer) (info : Option UnitInfo)
-      → IfSome (used_by t memory info) (λ t. t.buffer + transfer_buffer_length t ≤ memory)
-  by_parts (Some t) (Some info) = by_check (transfer_refusal t memory info.size info.mode) (nat_lt 0 (block_count t)) refl where
-    by_check : (r : Option Refusal) (some : Bool) → transfer_refusal t memory info.size info.mode ≡ r
-        → IfSome (if is_none r && some then Some t else None) (λ t. t.buffer + transfer_buffer_length t ≤ memory)
-    by_check None true is = (passes_if t memory info.size info.mode is).in_memory
-    by_check _ some is = tt
-  by_parts _ _ = tt
+used_in_memory (Some g) exec memory = by_parts (transfer_by g.op g.command.op)
+    (info_at (slice_get exec.units g.command.unit)) where
+      by_parts : (t : Option Transfer) (info : Option UnitInfo)
+          → IfSome (used_by t memory info) (λ t. t.buffer + transfer_buffer_length t ≤ memory)
+      by_parts (Some t) (Some info) = by_check (transfer_refusal t memory info.size info.mode)
+          (nat_lt 0 (block_count t)) refl where
+            by_check : (r : Option Refusal) (some : Bool) → transfer_refusal t memory info.size info.mode ≡ r
+                → IfSome (if is_none r && some then Some t else None)
+                (λ t. t.buffer + transfer_buffer_length t ≤ memory)
+            by_check None true is = (passes_if t memory info.size info.mode is).in_memory
+            by_check _ some is = tt
+      by_parts _ _ = tt
 
 -- no bytes are a part of any
 pub none_part : (to xs : List ℕ) (at : ℕ) → length to ≡ 0 → to ≡ part xs at (length to)

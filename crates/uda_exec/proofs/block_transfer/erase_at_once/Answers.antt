@@ -7,7 +7,12 @@ use Rattle.uda_exec.proofs.block_transfer.erase_at_once.Goals as goal
 
 pub loop-done-init : goal.loop-done-init
 loop-done-init g c = record {
-  attributes = record { size_stays = refl; faithful_stays = refl; honest_before = λ honest. honest; never_fails_stays = refl };
+  attributes = record {
+    size_stays = refl;
+    faithful_stays = refl;
+    honest_before = λ honest. honest;
+    never_fails_stays = refl;
+  };
   within = omega arith;
   erased = λ sound. erased_none _ _;
 }

@@ -13,7 +13,8 @@ returns-in_default-clause-moves_if_sound g c called =
     let sound = called (omega arith) in
     let way = c.loop-done.invariant in
     let before = sound_before c.move_block.ensures.attributes sound in
-    progress_stops _ _ _ _ _ _ (g.met.S.BlockStore.is_image_if_sound c.args.store.now (sound_before way.attributes before))
+    progress_stops _ _ _ _ _ _ (g.met.S.BlockStore.is_image_if_sound c.args.store.now
+    (sound_before way.attributes before))
     c.requires.on_unit
     c.requires.in_memory
     (rw c.block_count.ensures at c.loop-done-test.true) (way.moves (λ some. before)) _ _
@@ -35,7 +36,8 @@ loop-done-preserved-then-done-eq0 g c =
 
 pub loop-done-preserved : goal.loop-done-preserved
 loop-done-preserved g c =
-    way_next c.loop-done.invariant c.move_block.ensures.attributes (g.met.S.BlockStore.is_image_if_sound c.args.store.now)
+    way_next c.loop-done.invariant c.move_block.ensures.attributes
+    (g.met.S.BlockStore.is_image_if_sound c.args.store.now)
     c.requires.on_unit
     c.requires.in_memory (rw c.block_count.ensures at c.loop-done-test.true) _ c.move_block.ensures.changes
     c.in-Ok.ensures.moves

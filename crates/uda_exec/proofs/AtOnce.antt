@@ -1,39 +1,30 @@
 -- Several blocks of a transfer moved in one call, for each kind of transfer.
-use Rattle.std.proofs.Common.{◌≡◌, ℕ, ◌+◌, ◌*◌, ◌<◌, ◌≤◌, List, ◌++◌, length, take, drop, replicate, refl, sym, ap, ◌∙◌, arith}
+use Rattle.std.proofs.Common.{drop, zero, suc, ◌∷◌, ◌≡◌, ℕ, ◌+◌, ◌*◌, ◌≤◌, List, ◌++◌, length, take, replicate, refl, sym, ap, ◌∙◌, arith}
 use Rattle.std.specs.Prelude.{true}
 use Rattle.std.specs.List.{concat}
 use Rattle.std.specs.Simd.{first_chunks}
-use Rattle.std.proofs.lemmas.List.{same_lists, take_all, take-take, take-append-le, take-replicate, length-replicate, replicate-append-replicate}
+use Rattle.std.proofs.lemmas.List.{take-take, drop-take, take_all, take-append-le, take-replicate, length-replicate, replicate-append-replicate}
 use Rattle.uda_mem.proofs.PutLaws.{put-nil, put-part, put-put_next, length-part-le}
 use Rattle.uda_packet.specs.declared.end.Kind.TheVariants.{Erase, Read, Write}
 use Rattle.uda_image.specs.AtOnce.{ReadsBlocks, WritesBlocks, ChecksBlocks}
-use Rattle.uda_image.specs.StoreLaws.{length-first_chunks}
-use Rattle.uda_image.proofs.AtOnceLaws.{take-chunks, get_or-chunks}
+use Rattle.uda_image.proofs.AtOnceLaws.{take-chunks}
 use Rattle.uda_image.proofs.Chunk.{first_chunks-replicate}
 use Rattle.uda_exec.specs.Transfers.{Erased}
 use Rattle.uda_exec.proofs.Words.{put, part, Transfer, StoreState, KeepsAttributes, HasWholeBlocks, blocks_for, block_count, in_blocks, bytes_at, ChangesAt, Progress}
 use Rattle.uda_exec.proofs.Calls.{go_none, go_more}
 use Rattle.uda_exec.proofs.Changes.{changes_by_put}
 use Rattle.uda_exec.proofs.Steps.{progress_none}
-use Rattle.uda_exec.proofs.Blocks.{AreBlocks-part, length-concat_blocks, part-part, bytes_at-within}
+use Rattle.uda_exec.proofs.Blocks.{take-part, AreBlocks-part, length-concat_blocks, bytes_at-within}
 use Rattle.uda_image.specs.Store.{is_sound}
-
--- the front of a part
-take-part : {A : Type 0} (xs : List A) (at n m : ℕ) → m ≤ n → take m (part xs at n) ≡ part xs at m
-unfolding part
-take-part xs at n m h = take-take m n (drop at xs) h
 
 -- no byte past the chunks counts
 chunks-front : (count : ℕ) (bytes : List ℕ) → first_chunks 512 count (take (512 * count) bytes)
     ≡ first_chunks 512 count bytes
-unfolding part
-chunks-front count bytes =
-    let left = length-first_chunks count (take (512 * count) bytes) in
-    same_lists _ _ (left ∙ sym (length-first_chunks count bytes)) (λ i d below.
-    let within : i < count = omega (arith, left) in
-    get_or-chunks count (take (512 * count) bytes) i d within ∙ part-part bytes 0 (512 * count) (512 * i) 512
-    (omega arith)
-    ∙ ap (λ j. part bytes j 512) (omega arith) ∙ sym (get_or-chunks count bytes i d within))
+chunks-front zero bytes = refl
+chunks-front (suc count) bytes =
+    let size : 512 * suc count ≡ 512 + 512 * count = omega arith in
+    rw (size, take-take 512 (512 + 512 * count) bytes (omega arith), drop-take 512 (512 * count) bytes)
+    (ap (λ (bs : List (List ℕ)). take 512 bytes ∷ bs) (chunks-front count (drop 512 bytes)))
 
 -- nothing was moved, and nothing changed
 pub none_ahead : (t : Transfer) (old new : StoreState) (memory memory_after : List ℕ) → new ≡ old
@@ -49,7 +40,7 @@ changes_front old at n to new landed size =
 -- bytes equal to those in memory change nothing
 pub same_put_back : (memory : List ℕ) (at n : ℕ) (to new : List ℕ) → new ≡ put memory at to
     → to ≡ part memory at n → new ≡ memory
-same_put_back memory at n to new landed same = landed ∙ ap (put memory at) same ∙ put-part memory at n
+same_put_back memory at n to new landed same = rw (landed, same) (put-part memory at n)
 
 module _ (t : Transfer) (count : ℕ) (old : StoreState) (memory : List ℕ) (whole : 512 * count ≤ t.bytes) where
   pub reads_ahead : HasWholeBlocks old.size old.blocks → t.lbn + block_count t ≤ old.size → t.kind ≡ Read
@@ -63,14 +54,13 @@ module _ (t : Transfer) (count : ℕ) (old : StoreState) (memory : List ℕ) (wh
       let size : length (concat here) ≡ 512 * count = length-concat_blocks here
       (AreBlocks-part old.blocks t.lbn count (λ some. image.whole)) ∙ ap (λ i. 512 * i) many in
       let landed : to ≡ take t.bytes (concat (take count (part old.blocks t.lbn (block_count t)))) =
-      r.value ∙ sym (ap (λ (bs : List (List ℕ)). take t.bytes (concat bs)) due
-      ∙ take_all t.bytes (concat here) (omega (arith, size))) in
+      rw (due, take_all t.bytes (concat here) (omega (arith, size))) r.value in
       record {
         stand = record {
-          in_memory = stands ∙ rw is (ap (λ (b : List ℕ). put memory t.buffer b) landed);
-          in_store = rw is (ap (λ (s : StoreState). s.blocks) r.state_stays ∙ sym (put-nil old.blocks t.lbn));
+          in_memory = rw (is, ← landed) stands;
+          in_store = rw (is, r.state_stays, put-nil) refl;
         };
-        failures_stay = ap (λ (s : StoreState). s.failures) r.state_stays;
+        failures_stay = rw r.state_stays refl;
         calls = r.calls;
       }
 
@@ -86,16 +76,15 @@ module _ (t : Transfer) (count : ℕ) (old : StoreState) (memory : List ℕ) (wh
       (512 * count) whole in
       let due : take count (in_blocks (bytes_at memory t.buffer t.bytes)) ≡ first_chunks 512 count
       (part memory t.buffer (512 * count)) =
-      ap (λ (b : List ℕ). take count (in_blocks b)) (bytes_at-within memory t.buffer t.bytes room)
-      ∙ take-chunks count (blocks_for (length bytes)) (bytes ++ zeros) (omega (arith, size))
-      ∙ sym (chunks-front count (bytes ++ zeros)) ∙ ap (λ (b : List ℕ). first_chunks 512 count b) front in
+      rw (bytes_at-within memory t.buffer t.bytes room)
+      (take-chunks count (blocks_for (length bytes)) (bytes ++ zeros) (omega (arith, size))
+      ∙ sym (chunks-front count (bytes ++ zeros)) ∙ ap (first_chunks 512 count) front) in
       record {
         stand = record {
-          in_memory = rw is (sym (put-nil memory t.buffer));
-          in_store = rw is (ap (λ (s : StoreState). s.blocks) w.written
-              ∙ ap (λ (bs : List (List ℕ)). put old.blocks t.lbn bs) (sym due));
+          in_memory = rw (is, put-nil) refl;
+          in_store = rw (is, due, w.written) refl;
         };
-        failures_stay = ap (λ (s : StoreState). s.failures) w.written;
+        failures_stay = rw w.written refl;
         calls = w.calls;
       }
 
@@ -109,15 +98,13 @@ module _ (t : Transfer) (k count : ℕ) (old : StoreState) (memory : List ℕ) (
       ≡ put old.blocks t.lbn (take (k + count) (replicate (block_count t) (replicate 512 0)))
   erased_on within =
       let block : List ℕ = replicate 512 0 in
-      let front : take k (replicate (block_count t) block) ≡ replicate k block =
-      take-replicate k (block_count t) block (omega arith) in
-      let both : take (k + count) (replicate (block_count t) block) ≡ replicate (k + count) block =
-      take-replicate (k + count) (block_count t) block (omega arith) in
-      ap (λ (b : List (List ℕ)). put (put old.blocks t.lbn b) (t.lbn + k) (replicate count block)) front
-      ∙ put-put_next old.blocks t.lbn (replicate k block) (replicate count block) (t.lbn + k)
-      (ap (λ i. t.lbn + i) (sym (length-replicate k block)))
-      ∙ ap (λ (b : List (List ℕ)). put old.blocks t.lbn b)
-      (replicate-append-replicate k count block ∙ sym both)
+      rw (
+        take-replicate k (block_count t) block (omega arith),
+        take-replicate (k + count) (block_count t) block
+            (omega arith),
+      )
+      (put-put_next old.blocks t.lbn (replicate k block) (replicate count block) (t.lbn + k) (rw length-replicate refl)
+      ∙ ap (put old.blocks t.lbn) (replicate-append-replicate k count block))
 
   pub erases_on : t.kind ≡ Erase → k + count ≤ block_count t → Erased now (t.lbn + k) count new
       → Progress t (k + count) old memory new memory_now
@@ -127,11 +114,9 @@ module _ (t : Transfer) (k count : ℕ) (old : StoreState) (memory : List ℕ) (
       record {
         stand = record {
           in_memory = h.stand.in_memory ∙ rw is refl;
-          in_store = rw is (ap (λ (s : StoreState). s.blocks) e.written
-              ∙ ap (λ (b : List (List ℕ)). put b (t.lbn + k) (replicate count (replicate 512 0))) before
-              ∙ erased_on within);
+          in_store = rw (is, e.written, before) (erased_on within);
         };
-        failures_stay = ap (λ (s : StoreState). s.failures) e.written ∙ h.failures_stay;
+        failures_stay = rw e.written h.failures_stay;
         calls = go_more k count old.failing_call now.failing_call new.failing_call h.calls e.calls;
       }
 
@@ -153,37 +138,17 @@ erased_none old n = record {
   calls = go_none old.failing_call;
 }
 
-pub accessed_more : (old now new : StoreState) (n done piece : ℕ) (to : List ℕ) → ChecksBlocks old done now
-    → ReadsBlocks now n piece new to → ChecksBlocks old (done + piece) new
-accessed_more old now new n done piece to before r = record {
-  state_stays = r.state_stays ∙ ap (λ (s : StoreState). record s { failing_call = new.failing_call; ready = new.ready })
-      before.state_stays;
-  calls = go_more done piece old.failing_call now.failing_call new.failing_call before.calls r.calls;
-}
-
--- zeros in `count` chunks
-chunks-zeros : (count : ℕ) (from : List ℕ) → from ≡ replicate (512 * count) 0 → first_chunks 512 count from
-    ≡ replicate count (replicate 512 0)
-chunks-zeros count from e = ap (λ (b : List ℕ). first_chunks 512 count b) e
-    ∙ first_chunks-replicate 512 count 0
-
 pub erased_more : (old now new : StoreState) (n done piece : ℕ) (from : List ℕ)
     → from ≡ replicate (512 * piece) 0 → Erased old n done now → WritesBlocks now (n + done) piece new from
     → Erased old n (done + piece) new
 erased_more old now new n done piece from zeros before w =
     let block : List ℕ = replicate 512 0 in
-    let more : List (List ℕ) = first_chunks 512 piece from in
-    let both : put (put old.blocks n (replicate done block)) (n + done) more ≡ put old.blocks n
-    (replicate (done + piece) block) =
-    put-put_next old.blocks n (replicate done block) more (n + done)
-    (ap (λ i. n + i) (sym (length-replicate done block)))
-    ∙ ap (λ (b : List (List ℕ)). put old.blocks n (replicate done block ++ b)) (chunks-zeros piece from zeros)
-    ∙ ap (λ (b : List (List ℕ)). put old.blocks n b) (replicate-append-replicate done piece block) in
+    let both : put (put old.blocks n (replicate done block)) (n + done) (first_chunks 512 piece from)
+    ≡ put old.blocks n (replicate (done + piece) block) =
+    rw (zeros, first_chunks-replicate {A = ℕ} 512 piece 0) (put-put_next old.blocks n (replicate done block)
+    (replicate piece block)
+    (n + done) (rw length-replicate refl) ∙ ap (put old.blocks n) (replicate-append-replicate done piece block)) in
     record {
-      written = w.written ∙ ap (λ (s : StoreState).
-          record s { blocks = put s.blocks (n + done) more; failing_call = new.failing_call; ready = new.ready })
-          before.written
-          ∙ ap (λ (b : List (List ℕ)).
-          record old { blocks = b; failing_call = new.failing_call; ready = new.ready }) both;
+      written = w.written ∙ rw (before.written, both) refl;
       calls = go_more done piece old.failing_call now.failing_call new.failing_call before.calls w.calls;
     }

@@ -1,27 +1,23 @@
 -- A command changes only blocks that it uses.
-use Rattle.std.proofs.Common.{◌≡◌, ℕ, ◌*◌, ◌+◌, ◌<◌, ◌≤◌, Bool, true, false, List, [], ◌∷◌, length, set, replicate, Option, Some, None, inl, inr, ◌⊎◌, get_or, refl, sym, ap, ap₂, subst, ◌∙◌, arith, add-zero}
-use Rattle.std.specs.Prelude.{◌≢◌, ◌&&◌, ◌==◌, nat_lt, is_none, map, option_map, unwrap_or, slice_get, if◌then◌else◌}
+use Rattle.std.proofs.Common.{◌≡◌, ℕ, ◌*◌, ◌+◌, Bool, true, false, List, [], length, set, replicate, Option, Some, None, refl, sym, ap, ap₂, ◌∙◌, arith}
+use Rattle.std.specs.Prelude.{◌≢◌, ◌&&◌, ◌==◌, nat_lt, is_none, option_map, unwrap_or, slice_get, if◌then◌else◌}
 use Rattle.std.specs.List.{concat}
-use Rattle.std.proofs.lemmas.Bool.{cases_lt, eqb-true, eqb-false}
+use Rattle.std.proofs.lemmas.Bool.{eqb-true, eqb-false}
 use Rattle.std.proofs.lemmas.Bool.Decides.{nat_tests}
-use Rattle.std.proofs.lemmas.List.{set_past, length-replicate}
-use Rattle.std.proofs.lemmas.List.Elements.{All-replicate}
-use Rattle.std.proofs.lemmas.Option.{slice_get_within, slice_get-map, slice_get-get_or}
+use Rattle.std.proofs.lemmas.List.{nil_from_length, set-get_or, set_past, length-replicate}
+use Rattle.std.proofs.lemmas.List.Elements.{All-nil}
+use Rattle.std.proofs.lemmas.Option.{unwrap_or-slice_get, slice_get_within, slice_get-map}
 use Rattle.uda_mem.proofs.PutLaws.{put-nil}
-use Rattle.uda_image.specs.Store.{StoreState}
-use Rattle.uda_packet.specs.declared.command.Op.TheVariants as op
-use Rattle.uda_disk.specs.Request as ask
-use Rattle.uda_packet.specs.declared.end.Kind.TheVariants.{Access, Erase, Read, Write}
+use Rattle.uda_packet.specs.declared.end.Kind.TheVariants.{Erase, Read, Write}
 use Rattle.uda_packet.specs.declared.guest_command.GuestCommand.{GuestCommand}
 use Rattle.uda_packet.specs.declared.guest_command.GuestOp.{GuestOp}
 use Rattle.uda_packet.specs.declared.guest_command.GuestOp.TheVariants as guest
 use Rattle.uda_packet.specs.declared.reply.Reply.{Reply}
 use Rattle.uda_disk.specs.Units.{Units, failures_at, is_sound_at}
-use Rattle.uda_disk.specs.Laws.{blocks_in, blocks_at, size_in, size_at}
+use Rattle.uda_disk.specs.Laws.{blocks_in, blocks_at}
 use Rattle.uda_disk.proofs.Callers.{joined_and_cut}
-use Rattle.uda_disk.proofs.Slots.{slice_get-set_same, slice_get-set_other, set-itself}
-use Rattle.uda_exec.specs.declared.block_use.BlockUse.{BlockUse}
-use Rattle.uda_exec.specs.BlockUse.{access_by, transfer_by, used_by, transfer_used, range_of, bytes_written}
+use Rattle.uda_disk.proofs.Slots.{slice_get-set_same, slice_get-set_other}
+use Rattle.uda_exec.specs.BlockUse.{access_by, transfer_by, used_by, range_of, bytes_written}
 use Rattle.uda_exec.specs.BufferUse.{guest_at}
 use Rattle.uda_exec.specs.Compare.{compared_by, compared, ComparesSlot, ComparesUnit, ComparesUnits, failures_in, FitsTransfer}
 use Rattle.uda_exec.specs.declared.compare.Verdict.{Verdict}
@@ -33,12 +29,11 @@ use Rattle.uda_exec.specs.GuestOps.{op_at}
 use Rattle.uda_exec.specs.Laws.{OnlyUsedBlocksChange}
 use Rattle.uda_exec.specs.SetUnit.{unit_set}
 use Rattle.uda_exec.specs.BlockChanges.{use_on, are_written, LeavesUnit, ChangesUnit, ChangesOnly}
-use Rattle.uda_exec.proofs.Blocks.{AreBlocks-in_blocks}
-use Rattle.uda_exec.proofs.Steps.{length-due_le}
+use Rattle.uda_exec.proofs.Steps.{AreBlocks-due_by, length-due_by, nothing_if}
 use Rattle.uda_exec.proofs.Written.{length-written}
-use Rattle.uda_exec.proofs.Transferred.{Passes, passes_if, check_on-by, extent-asks, free-still}
-use Rattle.uda_exec.proofs.Units.{map-set_same, slot_in}
-use Rattle.uda_exec.proofs.Words.{put, Command, Op, Kind, Transfer, transfer_of, changes_blocks, Refusal, Disk, Act, in_blocks, extent_of, lbn_of, blocks_due, blocks_stored, UnitState, disk_of, disks_of, block_count, transfer_buffer_length, blocks_asked, bytes_at, asks_by, act_of, due, blocks_moved, blocks_written, disk_after, is_lost, is_accepted, CheckResult, Accepted, check_by, first_failed_check, check_on, check_in, extent_in, transfer_refusal, TransferOutcome, Done, Lost, IsWithinRange, World, does, effect_by, effect, passes_checks_by, passes_checks, world_of, End, Executes}
+use Rattle.uda_exec.proofs.Transferred.{asks_it, still, passes_if, check_on-transfer, extent-asks, free-still}
+use Rattle.uda_exec.proofs.Units.{slot_in}
+use Rattle.uda_exec.proofs.Words.{due_by, put, Command, Op, Kind, Transfer, transfer_of, changes_blocks, Refusal, Disk, Act, in_blocks, lbn_of, blocks_due, UnitState, disk_of, disks_of, block_count, blocks_asked, asks_by, act_of, due, blocks_moved, blocks_written, disk_after, is_lost, is_accepted, Accepted, check_by, check_on, check_in, transfer_refusal, TransferOutcome, Done, Lost, IsWithinRange, World, passes_checks, world_of, End, Executes}
 
 -- ---- the unit of a list
 
@@ -55,16 +50,26 @@ slot_blocks slot = blocks_in (option_map (option_map disk_of) slot)
 at_slot : (units : Units) (u : ℕ) → unit_blocks units u ≡ slot_blocks (slice_get units u)
 at_slot units u = ap blocks_in (slice_get-map (option_map disk_of) units u)
 
-same_units : (old new : Units) (u : ℕ) → new ≡ old → LeavesUnit u old new
-same_units old new u same = record {
-  blocks_stay = ap (λ (units : Units). unit_blocks units u) same;
-  failures_stay = ap (λ (units : Units). failures_at (slice_get units u)) same;
-}
-
 same_slot : (old new : Units) (u : ℕ) → slice_get new u ≡ slice_get old u → LeavesUnit u old new
 same_slot old new u same = record {
   blocks_stay = at_slot new u ∙ ap slot_blocks same ∙ sym (at_slot old u);
   failures_stay = ap failures_at same;
+}
+
+same_units : (old new : Units) (u : ℕ) → new ≡ old → LeavesUnit u old new
+same_units old new u same = same_slot old new u (rw same refl)
+
+-- a unit with a drive
+blocks_here : (units : Units) (u : ℕ) (unit : UnitState) → slice_get units u ≡ Some (Some unit)
+    → unit_blocks units u ≡ unit.store.blocks
+blocks_here units u unit here = at_slot units u ∙ ap slot_blocks here
+
+leaves_if : (old new : Units) (u : ℕ) (unit unit_after : UnitState) → slice_get old u ≡ Some (Some unit)
+    → slice_get new u ≡ Some (Some unit_after) → unit_after.store.blocks ≡ unit.store.blocks
+    → unit_after.store.failures ≡ unit.store.failures → LeavesUnit u old new
+leaves_if old new u unit unit_after here there blocks failures = record {
+  blocks_stay = rw (blocks_here old u unit here, blocks_here new u unit_after there) blocks;
+  failures_stay = rw (here, there) failures;
 }
 
 -- units that don't change
@@ -92,58 +97,28 @@ module _ (t : Transfer) (memory : List ℕ) (blocks : List (List ℕ)) (o : Tran
   written_by : (kind : Kind) → t.kind ≡ kind
       → blocks_written (asks_by kind t memory) (blocks_moved o (due (asks_by kind t memory) blocks))
       ≡ blocks_moved o (in_blocks (bytes_written (Some t) memory))
-  written_by Access is =
-      let none : bytes_written (Some t) memory ≡ [] = rw is refl in
-      sym (ap (λ (bytes : List ℕ). blocks_moved o (in_blocks bytes)) none ∙ moved_none o)
-  written_by Read is =
-      let none : bytes_written (Some t) memory ≡ [] = rw is refl in
-      sym (ap (λ (bytes : List ℕ). blocks_moved o (in_blocks bytes)) none ∙ moved_none o)
-  written_by Erase is =
-      let zeros : List (List ℕ) = replicate (block_count t) (replicate 512 0) in
-      let bytes : concat zeros ≡ bytes_written (Some t) memory = rw is refl in
-      ap (blocks_moved o) (sym (joined_and_cut zeros
-      (All-replicate (λ b. length b ≡ 512) (block_count t) (replicate 512 0) refl))
-      ∙ ap (λ (b : List ℕ). in_blocks b) bytes)
-  written_by Write is =
-      let cut : List (List ℕ) = in_blocks (bytes_at memory t.buffer t.bytes) in
-      let bytes : concat cut ≡ bytes_written (Some t) memory = rw is refl in
-      ap (blocks_moved o) (sym (joined_and_cut cut (AreBlocks-in_blocks (bytes_at memory t.buffer t.bytes)))
-      ∙ ap (λ (b : List ℕ). in_blocks b) bytes)
+  written_by Erase is = rw is (ap (blocks_moved o) (sym (joined_and_cut (due_by Erase t [] memory)
+      (AreBlocks-due_by t [] memory (λ some. All-nil (λ b. length b ≡ 512)) Erase))))
+  written_by Write is = rw is (ap (blocks_moved o) (sym (joined_and_cut (due_by Write t [] memory)
+      (AreBlocks-due_by t [] memory (λ some. All-nil (λ b. length b ≡ 512)) Write))))
+  written_by _ is = rw is (sym (moved_none o))
 
 -- a transfer without blocks has no bytes to write
-no_blocks_left : (blocks : List (List ℕ)) → length blocks ≤ 0 → blocks ≡ []
-no_blocks_left [] none = refl
-no_blocks_left (b ∷ rest) none = absurd (omega (arith, none))
-
-stored_none : (t : Transfer) → blocks_stored t [] ≡ []
-stored_none t = by_kind (changes_blocks t.kind)
-  where
-    by_kind : (changes : Bool) → if◌then◌else◌ {A = List (List ℕ)} changes [] [] ≡ []
-    by_kind true = refl
-    by_kind false = refl
-
 no_bytes : (t : Transfer) (memory : List ℕ) → block_count t ≡ 0 → bytes_written (Some t) memory ≡ []
 no_bytes t memory few =
     let due_none : blocks_due t [] memory ≡ [] =
-    no_blocks_left (blocks_due t [] memory) (omega (arith, length-due_le t [] memory t.kind, few)) in
-    ap (λ (b : List (List ℕ)). concat (blocks_stored t b)) due_none ∙ ap concat (stored_none t)
+    nil_from_length (blocks_due t [] memory) (length-due_by t [] memory t.kind (λ reads some. absurd (omega arith))
+    ∙ few) in
+    ap concat (nothing_if (changes_blocks t.kind) (blocks_due t [] memory) due_none)
 
 -- a transfer that passes its checks is on its unit, and has as many bytes to write as its blocks have
 kind_writes : (kind : Kind) → changes_blocks kind ≡ are_written (access_by kind)
-kind_writes Access = refl
-kind_writes Erase = refl
-kind_writes Read = refl
 kind_writes Write = refl
+kind_writes _ = refl
 
-size_is : (t : Transfer) (memory : List ℕ) (size : ℕ) → Passes t (length memory) size
+size_is : (t : Transfer) (memory : List ℕ)
     → length (bytes_written (Some t) memory) ≡ (if are_written (access_by t.kind) then 512 * block_count t else 0)
-size_is t memory size passes = length-written (Some t) memory passes.in_memory
-    ∙ ap (λ (writes : Bool). if writes then 512 * block_count t else 0) (kind_writes t.kind)
-
-unit_size : (units : Units) (u : ℕ) (unit : UnitState) (n : ℕ) → slice_get units u ≡ Some (Some unit)
-    → n ≤ unit.store.size → n ≤ size_at (disks_of units) u
-unit_size units u unit n here within = subst (λ (size : ℕ). n ≤ size)
-    (sym (ap size_in (slot_in units u (Some (Some unit)) here))) within
+size_is t memory = rw (← kind_writes t.kind) (length-written (Some t) memory)
 
 -- ---- a command of the strict profile, on its own unit
 
@@ -158,91 +133,53 @@ module _ (c : Command) (units units_after : Units) (memory memory_left : List �
   rejected : passes_checks c (world_of units memory) ≡ false → LeavesUnit c.unit units units_after
   rejected idle = same_units units units_after c.unit (x.by_checks.idle idle)
 
+  rejected_as : (act : Act) (slot : Option (Option UnitState)) → act_of c.op memory ≡ Some act
+      → slice_get units c.unit ≡ slot
+      → is_accepted (check_in c.op act (length memory) (option_map (option_map disk_of) slot)) ≡ false
+      → LeavesUnit c.unit units units_after
+  rejected_as act slot asks here idle = rejected (rw (asks, slot_in units c.unit slot here) idle)
+
   -- a command without blocks succeeds
-  succeeds : blocks_asked c.op ≡ 0 → it.outcome ≡ Done
-  succeeds none = by_outcome it.outcome it.fits.count
-    where
-      by_outcome : (o : TransferOutcome) → IsWithinRange (blocks_asked c.op) o → o ≡ Done
-      by_outcome Done within = refl
-      by_outcome (Lost k left) within = absurd (omega (arith, within.0, none))
+  succeeds : (o : TransferOutcome) → blocks_asked c.op ≡ 0 → IsWithinRange (blocks_asked c.op) o → is_lost o ≡ false
+  succeeds Done none within = refl
+  succeeds (Lost k left) none within = absurd (omega (arith, within.0))
 
   module _ (act : Act) (unit : UnitState) (asks : act_of c.op memory ≡ Some act)
       (here : slice_get units c.unit ≡ Some (Some unit))
       (free : check_on c act unit memory ≡ Accepted (disk_of unit)) where
-    effected : effect it.outcome c (world_of units memory)
-        ≡ does it.outcome c act (Accepted (disk_of unit)) (world_of units memory)
-    effected =
-        ap (λ (a : Option Act). effect_by it.outcome c a (world_of units memory)) asks
-        ∙ ap (λ (b : CheckResult). does it.outcome c act b (world_of units memory))
-        (ap (check_in c.op act (length memory)) (slot_in units c.unit (Some (Some unit)) here) ∙ free)
+    abbrev now_written : List (List ℕ)
+    now_written = blocks_written act (blocks_moved it.outcome (due act unit.store.blocks))
 
-    abbrev left : Disk
-    left = disk_after it.outcome act (disk_of unit)
-
-    own_disk : slice_get (disks_of units_after) c.unit ≡ Some (Some left)
-    own_disk =
-        ap (λ (p : End × World). slice_get p.1.disks c.unit) (it.effect_is ∙ effected)
-        ∙ slice_get-set_same (disks_of units) c.unit (Some left)
-        (slice_get_within (disks_of units) c.unit (Some (disk_of unit))
-        (slot_in units c.unit (Some (Some unit)) here))
-
-    own_blocks : unit_blocks units_after c.unit ≡ put (unit_blocks units c.unit) (lbn_of act)
-        (blocks_written act (blocks_moved it.outcome (due act unit.store.blocks)))
+    own_blocks : unit_blocks units_after c.unit ≡ put (unit_blocks units c.unit) (lbn_of act) now_written
     own_blocks =
-        ap blocks_in own_disk
-        ∙ ap (λ (b : List (List ℕ)). put b (lbn_of act)
-        (blocks_written act (blocks_moved it.outcome (due act unit.store.blocks))))
-        (sym (ap blocks_in (slot_in units c.unit (Some (Some unit)) here)))
+        let disk = slot_in units c.unit (Some (Some unit)) here in
+        let left : Option Disk = Some (disk_after it.outcome act (disk_of unit)) in
+        let effect = rw (asks, disk, free) at it.effect_is in
+        ap (λ (p : End × World). blocks_at p.1.disks c.unit) effect
+        ∙ rw (
+          slice_get-set_same (disks_of units) c.unit left
+              (slice_get_within (disks_of units) c.unit (Some (disk_of unit)) disk),
+          disk,
+        ) refl
 
     -- nothing is written
-    unwritten : blocks_asked c.op ≡ 0
-        → blocks_written act (blocks_moved it.outcome (due act unit.store.blocks)) ≡ []
-        → LeavesUnit c.unit units units_after
-    unwritten none nothing = record {
-      blocks_stay = own_blocks ∙ ap (put (unit_blocks units c.unit) (lbn_of act)) nothing
-          ∙ put-nil (unit_blocks units c.unit) (lbn_of act);
-      failures_stay = it.failures_are
-          ∙ ap (λ (o : TransferOutcome). failures_at (slice_get units c.unit) + (if is_lost o then 1 else 0))
-          (succeeds none)
-          ∙ add-zero (failures_at (slice_get units c.unit));
-    }
-
-  -- the checks of a command by the state of its unit
-  checks_by : (act : Act) (slot : Option (Option UnitState)) → act_of c.op memory ≡ Some act
-      → slice_get units c.unit ≡ slot
-      → passes_checks c (world_of units memory)
-      ≡ is_accepted (check_in c.op act (length memory) (option_map (option_map disk_of) slot))
-  checks_by act slot asks here =
-      ap (λ (a : Option Act). passes_checks_by c a (world_of units memory)) asks
-      ∙ ap (λ (disk : Option (Option Disk)). is_accepted (check_in c.op act (length memory) disk))
-      (slot_in units c.unit slot here)
+    unwritten : blocks_asked c.op ≡ 0 → now_written ≡ [] → LeavesUnit c.unit units units_after
+    unwritten none nothing =
+        let blocks = rw nothing at own_blocks in
+        let failures = rw (succeeds it.outcome none it.fits.count) at it.failures_are in
+        record { blocks_stay = blocks ∙ put-nil (unit_blocks units c.unit) (lbn_of act); failures_stay = omega arith }
 
   -- a command that is no transfer
-  module _ (none : transfer_of c.op ≡ None) where
-    no_blocks : blocks_asked c.op ≡ 0
-    no_blocks = rw none refl
-
-    still_as : (act : Act) → act_of c.op memory ≡ Some act → extent_of act ≡ None
-        → ((blocks : List (List ℕ)) → blocks_written act blocks ≡ []) → LeavesUnit c.unit units units_after
-    still_as act asks still writes = by_slot (slice_get units c.unit) refl
-      where
-        by_slot : (slot : Option (Option UnitState)) → slice_get units c.unit ≡ slot
-            → LeavesUnit c.unit units units_after
-        by_slot None here = rejected (checks_by act None asks here)
-        by_slot (Some None) here = rejected (checks_by act (Some None) asks here)
-        by_slot (Some (Some unit)) here =
-            unwritten act unit asks here (free-still c act unit memory none still) no_blocks
-            (writes (blocks_moved it.outcome (due act unit.store.blocks)))
-
-    still_by : (o : Op) → c.op ≡ o → transfer_of o ≡ None → LeavesUnit c.unit units units_after
-    still_by op.Controller is free =
-        let asks : act_of c.op memory ≡ None = rw is refl in
-        rejected (ap (λ (a : Option Act). passes_checks_by c a (world_of units memory)) asks)
-    still_by op.Status is free = still_as ask.Status (rw is refl) refl (λ blocks. refl)
-    still_by op.Available is free = still_as ask.Available (rw is refl) refl (λ blocks. refl)
-    still_by (op.Online soft) is free =
-        still_as (ask.Online (unwrap_or soft false)) (rw is refl) refl (λ blocks. refl)
-    still_by _ is free = absurd (cc)
+  still_by : (asked : Option Act) → act_of c.op memory ≡ asked → transfer_of c.op ≡ None
+      → LeavesUnit c.unit units units_after
+  still_by None asks none = rejected (rw asks refl)
+  still_by (Some act) asks none = by_slot (slice_get units c.unit) refl
+    where
+      by_slot : (slot : Option (Option UnitState)) → slice_get units c.unit ≡ slot → LeavesUnit c.unit units units_after
+      by_slot (Some (Some unit)) here =
+          let s = still c.op memory act none asks in
+          unwritten act unit asks here (free-still c act unit memory none s.no_extent) (rw none refl) (s.stores _)
+      by_slot slot here = rejected_as act slot asks here refl
 
   -- a transfer on a unit with a drive
   module _ (t : Transfer) (is : transfer_of c.op ≡ Some t) (unit : UnitState)
@@ -250,21 +187,11 @@ module _ (c : Command) (units units_after : Units) (memory memory_left : List �
     abbrev act : Act
     act = asks_by t.kind t memory
 
-    asks_it : act_of c.op memory ≡ Some act
-    asks_it = rw is refl
-
-    extent : extent_of act ≡ Some (extent_in t)
-    extent = extent-asks t memory t.kind
-
     abbrev refusal_of : Option Refusal
     refusal_of = transfer_refusal t (length memory) unit.store.size unit.mode
 
     checked : check_on c act unit memory ≡ check_by refusal_of (disk_of unit)
-    checked = check_on-by c act unit memory t.buffer (transfer_buffer_length t)
-        (first_failed_check (extent_in t) unit.store.size unit.mode) (rw is refl) (rw is refl) (rw extent refl)
-
-    counted : blocks_asked c.op ≡ block_count t
-    counted = rw is refl
+    checked = check_on-transfer c t unit memory is
 
     written_is : blocks_written act (blocks_moved it.outcome (due act unit.store.blocks))
         ≡ blocks_moved it.outcome (in_blocks (bytes_written (Some t) memory))
@@ -273,93 +200,43 @@ module _ (c : Command) (units units_after : Units) (memory memory_left : List �
     by_check : (r : Option Refusal) (some : Bool) → refusal_of ≡ r → nat_lt 0 (block_count t) ≡ some
         → own_unit (if is_none r && some then Some t else None)
     by_check (Some refusal) some found calls =
-        rejected (checks_by act (Some (Some unit)) asks_it here
-        ∙ ap is_accepted (checked ∙ ap (λ (f : Option Refusal). check_by f (disk_of unit)) found))
+        rejected_as act (Some (Some unit)) (asks_it c t unit memory is) here (rw (checked, found) refl)
     by_check None true found calls =
-        let free = checked ∙ ap (λ (f : Option Refusal). check_by f (disk_of unit)) found in
         let passes = passes_if t (length memory) unit.store.size unit.mode found in
         record {
-          on_unit = unit_size units c.unit unit (t.lbn + block_count t) here passes.on_unit;
-          size = size_is t memory unit.store.size passes;
+          on_unit = rw (slot_in units c.unit (Some (Some unit)) here) passes.on_unit;
+          size = size_is t memory;
           outcome = it.outcome;
-          within = subst (λ (n : ℕ). IsWithinRange n it.outcome) counted it.fits.count;
-          written = own_blocks act unit asks_it here free
-              ∙ ap₂ (put (unit_blocks units c.unit)) (rw extent refl) written_is;
+          within = rw is at it.fits.count;
+          written = own_blocks act unit (asks_it c t unit memory is) here (rw (checked, found) refl)
+              ∙ ap₂ (put (unit_blocks units c.unit)) (rw (extent-asks t memory t.kind) refl) written_is;
           failures_are = it.failures_are;
         }
     by_check None false found calls =
-        let free = checked ∙ ap (λ (f : Option Refusal). check_by f (disk_of unit)) found in
         let few : block_count t ≡ 0 = grind (arith, nat_tests) in
-        let none : blocks_asked c.op ≡ 0 = counted ∙ few in
-        unwritten act unit asks_it here free none
-        (written_is ∙ ap (λ (bytes : List ℕ). blocks_moved it.outcome (in_blocks bytes)) (no_bytes t memory few)
-        ∙ moved_none it.outcome)
+        unwritten act unit (asks_it c t unit memory is) here (rw (checked, found) refl) (rw is few)
+        (written_is ∙ rw (no_bytes t memory few) (moved_none it.outcome))
 
   transfer_on : (t : Transfer) → transfer_of c.op ≡ Some t → (slot : Option (Option UnitState))
       → slice_get units c.unit ≡ slot → own_unit (used_by (Some t) (length memory) (info_at slot))
-  transfer_on t is None here = rejected (checks_by (asks_by t.kind t memory) None (rw is refl) here)
-  transfer_on t is (Some None) here = rejected (checks_by (asks_by t.kind t memory) (Some None) (rw is refl) here)
   transfer_on t is (Some (Some unit)) here = by_check t is unit here _ _ refl refl
+  transfer_on t is slot here = rejected_as (asks_by t.kind t memory) slot (rw is refl) here refl
 
   on_own : (found : Option Transfer) → transfer_of c.op ≡ found
       → own_unit (used_by found (length memory) (info_at (slice_get units c.unit)))
-  on_own None is = still_by is c.op refl is
+  on_own None is = still_by (act_of c.op memory) refl is
   on_own (Some t) is = transfer_on t is (slice_get units c.unit) refl
 
 -- ---- Set Unit Characteristics: it changes no store
 
-abbrev store_blocks : Option (Option StoreState) → List (List ℕ)
-store_blocks (Some (Some store)) = store.blocks
-store_blocks _ = []
-
-abbrev store_failures : Option (Option StoreState) → ℕ
-store_failures (Some (Some store)) = store.failures
-store_failures _ = 0
-
-abbrev store_of : UnitState → StoreState
-store_of unit = unit.store
-
-blocks_by_store : (slot : Option (Option UnitState))
-    → slot_blocks slot ≡ store_blocks (option_map (option_map store_of) slot)
-blocks_by_store None = refl
-blocks_by_store (Some None) = refl
-blocks_by_store (Some (Some unit)) = refl
-
-failures_by_store : (slot : Option (Option UnitState))
-    → failures_at slot ≡ store_failures (option_map (option_map store_of) slot)
-failures_by_store None = refl
-failures_by_store (Some None) = refl
-failures_by_store (Some (Some unit)) = refl
-
-same_stores : (old new : Units) (u : ℕ) → map (option_map store_of) new ≡ map (option_map store_of) old
-    → LeavesUnit u old new
-same_stores old new u same =
-    let slots : option_map (option_map store_of) (slice_get new u)
-    ≡ option_map (option_map store_of) (slice_get old u) =
-    sym (slice_get-map (option_map store_of) new u)
-    ∙ ap (λ (stores : List (Option StoreState)). slice_get stores u) same
-    ∙ slice_get-map (option_map store_of) old u in
-    record {
-      blocks_stay = at_slot new u ∙ blocks_by_store (slice_get new u) ∙ ap store_blocks slots
-          ∙ sym (at_slot old u ∙ blocks_by_store (slice_get old u));
-      failures_stay = failures_by_store (slice_get new u) ∙ ap store_failures slots
-          ∙ sym (failures_by_store (slice_get old u));
-    }
-
-stores_set : (c : Command) (units : Units) (slot : Option (Option UnitState)) → slice_get units c.unit ≡ slot
-    → map (option_map store_of) (set units c.unit (option_map (unit_set c.op) (unwrap_or slot None)))
-    ≡ map (option_map store_of) units
-stores_set c units None past = ap (map (option_map store_of)) (by_place (cases_lt c.unit (length units)))
-  where
-    by_place : (c.unit < length units) ⊎ (length units ≤ c.unit) → set units c.unit None ≡ units
-    by_place (inl within) =
-        let there : slice_get units c.unit ≡ Some (get_or units c.unit None) =
-        slice_get-get_or units c.unit None within in
-        absurd (cc)
-    by_place (inr past) = set_past units c.unit None past
-stores_set c units (Some None) here = ap (map (option_map store_of)) (set-itself units c.unit None here)
-stores_set c units (Some (Some unit)) here =
-    map-set_same store_of units c.unit unit (unit_set c.op unit) here refl
+set_own : (o : Op) (units : Units) (u : ℕ) (slot : Option (Option UnitState)) → slice_get units u ≡ slot
+    → LeavesUnit u units (set units u (option_map (unit_set o) (unwrap_or slot None)))
+set_own o units u (Some (Some unit)) here =
+    leaves_if units _ u unit (unit_set o unit) here
+    (slice_get-set_same units u (Some (unit_set o unit)) (slice_get_within units u (Some unit) here)) refl refl
+set_own o units u slot here =
+    let none = sym (ap (λ (s : Option (Option UnitState)). unwrap_or s None) here) ∙ unwrap_or-slice_get units u None in
+    same_units units _ u (ap (set units u) none ∙ set-get_or units u None)
 
 -- ---- Compare Host Data
 
@@ -369,19 +246,16 @@ outcome_of (verdict.Lost k) = Lost k (replicate 512 0)
 outcome_of _ = Done
 
 outcome_within : (t : Transfer) (v : Verdict) → FitsTransfer t v → IsWithinRange (block_count t) (outcome_of v)
-outcome_within t verdict.Equal fits = tt
-outcome_within t (verdict.Differs n) fits = tt
 outcome_within t (verdict.Lost k) fits = (fits, length-replicate {A = ℕ} 512 0)
+outcome_within t _ fits = tt
 
 failures_of : (v : Verdict) → failures_in v ≡ (if is_lost (outcome_of v) then 1 else 0)
-failures_of verdict.Equal = refl
-failures_of (verdict.Differs n) = refl
 failures_of (verdict.Lost k) = refl
+failures_of _ = refl
 
 failures_none : (t : Transfer) (v : Verdict) → block_count t ≡ 0 → FitsTransfer t v → failures_in v ≡ 0
-failures_none t verdict.Equal few fits = refl
-failures_none t (verdict.Differs n) few fits = refl
 failures_none t (verdict.Lost k) few fits = absurd (omega (arith, fits, few))
+failures_none t _ few fits = refl
 
 kind_compared : (o : Op) → (compared o).kind ≡ Read
 kind_compared o = by_transfer (transfer_of o)
@@ -403,51 +277,33 @@ module _ (c : Command) (units units_after : Units) (memory memory_left : List �
   module _ (unit unit_after : UnitState) (here : slice_get units c.unit ≡ Some (Some unit))
       (set_is : units_after ≡ set units c.unit (Some unit_after)) where
     there : slice_get units_after c.unit ≡ Some (Some unit_after)
-    there = ap (λ (u : Units). slice_get u c.unit) set_is
-        ∙ slice_get-set_same units c.unit (Some unit_after) (slice_get_within units c.unit (Some unit) here)
-
-    by_count : transfer_refusal t_of (length memory) unit.store.size unit.mode ≡ None → (v : Verdict)
-        → FitsTransfer t_of v → unit_blocks units_after c.unit ≡ unit_blocks units c.unit
-        → failures_at (slice_get units_after c.unit) ≡ failures_at (slice_get units c.unit) + failures_in v
-        → (some : Bool) → nat_lt 0 (block_count t_of) ≡ some → compared_unit (if some then Some t_of else None)
-    by_count passed v fits stays failed false calls =
-        let few : block_count t_of ≡ 0 = grind (arith, nat_tests) in
-        record {
-          blocks_stay = stays;
-          failures_stay = failed
-              ∙ ap (λ (n : ℕ). failures_at (slice_get units c.unit) + n) (failures_none t_of v few fits)
-              ∙ add-zero (failures_at (slice_get units c.unit));
-        }
-    by_count passed v fits stays failed true calls =
-        let none : bytes_written (Some t_of) memory ≡ [] = rw (kind_compared c.op) refl in
-        let moved : blocks_moved (outcome_of v) (in_blocks (bytes_written (Some t_of) memory)) ≡ [] =
-        ap (λ (bytes : List ℕ). blocks_moved (outcome_of v) (in_blocks bytes)) none ∙ moved_none (outcome_of v) in
-        let passes = passes_if t_of (length memory) unit.store.size unit.mode passed in
-        record {
-          on_unit = unit_size units c.unit unit (t_of.lbn + block_count t_of) here passes.on_unit;
-          size = size_is t_of memory unit.store.size passes;
-          outcome = outcome_of v;
-          within = outcome_within t_of v fits;
-          written = stays ∙ sym (ap (put (unit_blocks units c.unit) t_of.lbn) moved
-              ∙ put-nil (unit_blocks units c.unit) t_of.lbn);
-          failures_are = failed ∙ ap (λ (n : ℕ). failures_at (slice_get units c.unit) + n) (failures_of v);
-        }
+    there = rw set_is (slice_get-set_same units c.unit (Some unit_after)
+        (slice_get_within units c.unit (Some unit) here))
 
     compared_by_check : (found : Option Refusal) (some : Bool)
         → transfer_refusal t_of (length memory) unit.store.size unit.mode ≡ found
         → nat_lt 0 (block_count t_of) ≡ some → ComparesUnit found c unit memory r unit_after
         → compared_unit (if is_none found && some then Some t_of else None)
-    compared_by_check (Some refusal) some is calls it = same_units units units_after c.unit
-        (set_is ∙ ap (λ (u : UnitState). set units c.unit (Some u)) it.1 ∙ set-itself units c.unit (Some unit) here)
-    compared_by_check None some is calls (v, it) =
+    compared_by_check (Some refusal) some is calls it = same_slot units units_after c.unit (rw (there, it.1) (sym here))
+    compared_by_check None false is calls (v, it) =
         let kept = it.blocks_if_sound (sym (ap is_sound_at there) ∙ sound) in
-        let stays : unit_blocks units_after c.unit ≡ unit_blocks units c.unit =
-        at_slot units_after c.unit ∙ ap slot_blocks there ∙ kept.blocks_stay
-        ∙ sym (at_slot units c.unit ∙ ap slot_blocks here) in
-        let failed : failures_at (slice_get units_after c.unit) ≡ failures_at (slice_get units c.unit) + failures_in v =
-        ap failures_at there ∙ kept.failures_are
-        ∙ sym (ap (λ (slot : Option (Option UnitState)). failures_at slot + failures_in v) here) in
-        by_count is v it.fits stays failed some calls
+        let few : block_count t_of ≡ 0 = grind (arith, nat_tests) in
+        leaves_if units units_after c.unit unit unit_after here there kept.blocks_stay
+        (omega (arith, kept.failures_are, failures_none t_of v few it.fits))
+    compared_by_check None true is calls (v, it) =
+        let kept = it.blocks_if_sound (sym (ap is_sound_at there) ∙ sound) in
+        let passes = passes_if t_of (length memory) unit.store.size unit.mode is in
+        let moved : blocks_moved (outcome_of v) (in_blocks (bytes_written (Some t_of) memory)) ≡ [] =
+        rw (kind_compared c.op) (moved_none (outcome_of v)) in
+        record {
+          on_unit = rw (slot_in units c.unit (Some (Some unit)) here) passes.on_unit;
+          size = size_is t_of memory;
+          outcome = outcome_of v;
+          within = outcome_within t_of v it.fits;
+          written = rw (moved, blocks_here units c.unit unit here, blocks_here units_after c.unit unit_after there)
+              (kept.blocks_stay ∙ sym (put-nil unit.store.blocks t_of.lbn));
+          failures_are = rw (here, there) (kept.failures_are ∙ ap (λ (n : ℕ). unit.store.failures + n) (failures_of v));
+        }
 
   on_slot : (slot : Option (Option UnitState)) → slice_get units c.unit ≡ slot
       → ComparesSlot slot c units memory r units_after
@@ -469,14 +325,13 @@ module _ (c : Command) (old new : Units) (memory memory_left : List ℕ) (r : Re
   compared_slot u other None it = same_units old new u it.1
   compared_slot u other (Some None) it = same_units old new u it.1
   compared_slot u other (Some (Some unit)) (unit_after, both) =
-      same_slot old new u (ap (λ (units : Units). slice_get units u) both.0
-      ∙ slice_get-set_other old c.unit u (Some unit_after) other)
+      same_slot old new u (rw both.0 (slice_get-set_other old c.unit u (Some unit_after) other))
 
   on_other : (o : GuestOp) → ExecutesAs o c old memory r new memory_left → (u : ℕ) → u ≢ c.unit
       → LeavesUnit u old new
   on_other guest.Basic x u other = same_slot old new u (x.executes.others_stay u other)
-  on_other guest.SetUnit x u other = same_stores old new u (ap (map (option_map store_of)) x.units_are
-      ∙ stores_set c old (slice_get old c.unit) refl)
+  on_other guest.SetUnit x u other =
+      same_slot old new u (rw x.units_are (slice_get-set_other old c.unit u _ other))
   on_other guest.Compare x u other = compared_slot u other (slice_get old c.unit) x.slot
 
   on_this : (o : GuestOp) → ExecutesAs o c old memory r new memory_left
@@ -485,33 +340,21 @@ module _ (c : Command) (old new : Units) (memory memory_left : List ℕ) (r : Re
   on_this guest.Basic x sound =
       on_own c old new memory memory_left x.end x.executes (x.executes.takes_effect_if_sound (λ calls. sound))
       (transfer_of c.op) refl
-  on_this guest.SetUnit x sound = same_stores old new c.unit (ap (map (option_map store_of)) x.units_are
-      ∙ stores_set c old (slice_get old c.unit) refl)
+  on_this guest.SetUnit x sound = rw x.units_are (set_own c.op old c.unit (slice_get old c.unit) refl)
   on_this guest.Compare x sound =
       on_slot c old new memory memory_left r x sound (slice_get old c.unit) refl x.slot
 
   by_unit : (o : GuestOp) → ExecutesAs o c old memory r new memory_left → (u : ℕ)
       → is_sound_at (slice_get new u) ≡ true → (own : Bool) → (u == c.unit) ≡ own
       → ChangesUnit (use_on u (range_of (Some (make c o)) (used_as o))) (bytes_written (used_as o) memory) u old new
-  by_unit o x u sound false is =
-      subst (λ (used : Option BlockUse). ChangesUnit used (bytes_written (used_as o) memory) u old new)
-      (sym (use_other c o u is (used_as o))) (on_other o x u (eqb-false u c.unit is))
+  by_unit o x u sound false is = rw (use_other c o u is (used_as o)) (on_other o x u (eqb-false u c.unit is))
   by_unit o x u sound true is =
       let same : u ≡ c.unit = eqb-true u c.unit is in
-      subst (λ (used : Option BlockUse). ChangesUnit used (bytes_written (used_as o) memory) u old new)
-      (sym (use_own c o u is (used_as o)))
-      (subst
-      (λ (v : ℕ). ChangesUnit (range_of (Some (make c o)) (used_as o)) (bytes_written (used_as o) memory) v old new)
-      (sym same) (on_this o x (subst (λ (v : ℕ). is_sound_at (slice_get new v) ≡ true) same sound)))
+      rw (use_own c o u is (used_as o), same) (on_this o x (rw same at sound))
 
 pub only_used_blocks_change : OnlyUsedBlocksChange
 only_used_blocks_change j old new memory memory_left r x u sound =
     let c = x.command in
     let o = op_at old.guest_ops j in
     let found : guest_at old j ≡ Some (make c o) = ap (option_map (λ (c : Command). make c o)) x.taken.stands in
-    let m = length memory in
-    subst
-    (λ (g : Option GuestCommand). ChangesUnit (use_on u (range_of g (transfer_used g old m)))
-    (bytes_written (transfer_used g old m) memory) u old.units new.units)
-    (sym found)
-    (by_unit c old.units new.units memory memory_left r o x.executes u sound (u == c.unit) refl)
+    rw found (by_unit c old.units new.units memory memory_left r o x.executes u sound (u == c.unit) refl)

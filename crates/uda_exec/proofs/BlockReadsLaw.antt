@@ -1,15 +1,13 @@
 -- What a command reads of the blocks of its unit.
-use Rattle.std.proofs.Common.{◌≡◌, ◌∙◌, ℕ, Bool, true, false, List, Option, Some, None, refl, sym, ap}
-use Rattle.std.specs.Prelude.{length, take, slice_get}
-use Rattle.uda_mem.specs.Put.{put}
+use Rattle.std.proofs.Common.{ap₂, ◌≡◌, ◌∙◌, ℕ, Bool, false, List, Option, Some, None, refl, sym, ap}
+use Rattle.std.specs.Prelude.{length, slice_get}
 use Rattle.uda_packet.specs.declared.command.Command.{Command}
 use Rattle.uda_packet.specs.declared.end.End.{End}
 use Rattle.uda_disk.specs.declared.mode.Mode.{Mode}
 use Rattle.uda_disk.specs.declared.refusal.Refusal.{Refusal}
 use Rattle.uda_disk.specs.Disk.{Disk, Disks}
-use Rattle.uda_disk.specs.Request.{Act, Available, Status, Online, Access, Erase, Read, Write, extent_of}
-use Rattle.uda_disk.specs.Answer.{Answer, Data}
-use Rattle.uda_disk.specs.RequestEffect.{CheckResult, check_by, refusal_on, check_at, TransferOutcome, due, blocks_moved, data_read, bytes_on, answer_on, answer_by, transfer_status, transfer_bytes}
+use Rattle.uda_disk.specs.Request.{Act, Access, Read, extent_of}
+use Rattle.uda_disk.specs.RequestEffect.{CheckResult, check_by, refusal_on, check_at, TransferOutcome, due, answer_on, answer_by}
 use Rattle.uda_disk.specs.Units.{disks_of}
 use Rattle.uda_exec.specs.Commands.{act_of, buffer_start, buffer_length}
 use Rattle.uda_exec.specs.BufferChecks.{is_odd, is_missing, check_with}
@@ -24,60 +22,33 @@ same_due : (act : Act) (blocks other : List (List ℕ)) → HaveSameRange (exten
     → due act other ≡ due act blocks
 same_due (Read lbn bytes) blocks other same = same
 same_due (Access lbn bytes) blocks other same = same
-same_due (Write lbn payload) blocks other same = refl
-same_due (Erase lbn bytes) blocks other same = refl
-same_due Available blocks other same = refl
-same_due Status blocks other same = refl
-same_due (Online protect) blocks other same = refl
+same_due _ blocks other same = refl
 
 same_answer : (o : TransferOutcome) (act : Act) (disk : Disk) (other : List (List ℕ))
     → due act other ≡ due act disk.blocks → answer_on o act (with_blocks other disk) ≡ answer_on o act disk
-same_answer o (Read lbn bytes) disk other same =
-    ap (λ (b : List (List ℕ)). Data (transfer_status o)
-    (take (transfer_bytes o bytes) (data_read (Read lbn bytes) (blocks_moved o b)))) same
-same_answer o (Access lbn bytes) disk other same = refl
-same_answer o (Write lbn payload) disk other same = refl
-same_answer o (Erase lbn bytes) disk other same = refl
-same_answer o Available disk other same = refl
-same_answer o Status disk other same = refl
-same_answer o (Online protect) disk other same = refl
+same_answer o (Read lbn bytes) disk other same = rw same refl
+same_answer o _ disk other same = refl
 
 module _ (o : TransferOutcome) (c : Command) (act : Act) (memory : List ℕ) where
   -- the end message and memory, by the result of the checks
   abbrev seen : CheckResult → End × List ℕ
   seen b = (end_for c (answer_by o act b), memory_by o c.op act b memory)
 
-  accepted : (odd missing : Bool) (found : Option Refusal) (disk : Disk) (other : List (List ℕ))
+  accepted : (found : Option Refusal) (odd missing : Bool) (disk : Disk) (other : List (List ℕ))
       → due act other ≡ due act disk.blocks
       → seen (check_with odd missing (check_by found (with_blocks other disk)))
       ≡ seen (check_with odd missing (check_by found disk))
-  accepted odd missing (Some refusal) disk other same = refl
-  accepted true missing None disk other same = refl
-  accepted false true None disk other same = refl
-  accepted false false None disk other same =
-      ap (λ (a : Answer). (end_for c a, put memory (buffer_start c.op) (bytes_on o act (with_blocks other disk))))
-      (same_answer o act disk other same)
-      ∙ ap (λ (b : List (List ℕ)). (
-        end_for c (answer_on o act disk),
-        put memory (buffer_start c.op) (data_read act (blocks_moved o b)),
-      )) same
+  accepted None false false disk other same = rw (same_answer o act disk other same, same) refl
+  accepted _ odd missing disk other same = refl
 
   looked : (odd missing : Bool) (slot other : Option (Option Disk)) → LookSame act slot other
       → seen (check_with odd missing (check_at act other)) ≡ seen (check_with odd missing (check_at act slot))
   looked odd missing (Some (Some disk)) (Some (Some other)) same =
       let is : other ≡ with_blocks other.blocks disk =
-      ap (λ (n : ℕ). record { blocks = other.blocks; size = n; mode = other.mode }) same.0
-      ∙ ap (λ (m : Mode). record { blocks = other.blocks; size = disk.size; mode = m }) same.1.0 in
-      ap (λ (d : Disk). seen (check_with odd missing (check_at act (Some (Some d))))) is
-      ∙ accepted odd missing (refusal_on (extent_of act) disk.size disk.mode) disk other.blocks
-      (same_due act disk.blocks other.blocks same.1.1)
-  looked odd missing (Some (Some disk)) (Some None) same =
-      ap (λ (s : Option (Option Disk)). seen (check_with odd missing (check_at act s))) same
-  looked odd missing (Some (Some disk)) None same =
-      ap (λ (s : Option (Option Disk)). seen (check_with odd missing (check_at act s))) same
-  looked odd missing (Some None) other same =
-      ap (λ (s : Option (Option Disk)). seen (check_with odd missing (check_at act s))) same
-  looked odd missing None other same =
+      ap₂ (λ (n : ℕ) (m : Mode). record { blocks = other.blocks; size = n; mode = m }) same.0 same.1.0 in
+      rw is (accepted (refusal_on (extent_of act) disk.size disk.mode) odd missing disk other.blocks
+      (same_due act disk.blocks other.blocks same.1.1))
+  looked odd missing slot other same =
       ap (λ (s : Option (Option Disk)). seen (check_with odd missing (check_at act s))) same
 
 by_act : (o : TransferOutcome) (c : Command) (memory : List ℕ) (act : Option Act) (disks other : Disks)

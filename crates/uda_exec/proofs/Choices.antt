@@ -1,7 +1,6 @@
 -- Eligibility, one older command after the other.
-use Rattle.std.proofs.Common.{◌≡◌, ℕ, ◌+◌, ◌<◌, ◌≤◌, true, List, Some, length, get_or, take, inl, inr, ap, ◌∙◌, arith, length-take}
+use Rattle.std.proofs.Common.{◌≡◌, ℕ, ◌+◌, ◌<◌, ◌≤◌, true, List, Some, length, get_or, take, arith, length-take}
 use Rattle.std.specs.Prelude.{slice_get}
-use Rattle.std.proofs.lemmas.Bool.{cases_lt}
 use Rattle.std.proofs.lemmas.List.{get_or-take}
 use Rattle.std.proofs.lemmas.Option.{get_or_from_slice_get}
 use Rattle.uda_exec.specs.Commands.{is_transfer}
@@ -16,15 +15,14 @@ PassesFirst pending n command = (i : ℕ) (older : Command) → i < n → slice_
 pub passes_next : (pending : List Command) (place n : ℕ) (command d : Command)
     → n < length (take place pending) → command_may_overtake (get_or (take place pending) n d) command ≡ true
     → PassesFirst pending n command → PassesFirst pending (n + 1) command
-passes_next pending place n command d inside may before i older below at = elim (cases_lt i n) [
-  | inl low ↦ before i older low at
-  | inr high ↦
-      let same : n ≡ i = omega arith in
-      let here : get_or (take place pending) n d ≡ older =
-      get_or-take place pending n d (omega (arith, length-take place pending))
-      ∙ ap (λ k. get_or pending k d) same ∙ get_or_from_slice_get pending i older d at in
-      rw here at may
-]
+passes_next pending place n command d inside may before i older below at =
+    grind (
+      arith,
+      before i older,
+      get_or-take place pending n d,
+      get_or_from_slice_get pending i older d,
+      length-take place pending,
+    )
 
 -- a command that may overtake all before its index is eligible
 pub goes_if : (pending : List Command) (place n : ℕ) (d : Command) → place < length pending

@@ -1,18 +1,15 @@
 -- The comparison of blocks with memory from block to block; and the list of additional operations.
-use Rattle.std.proofs.Common.{◌≡◌, ℕ, ◌+◌, ◌-◌, ◌*◌, ◌/◌, ◌%◌, ◌<◌, ◌≤◌, inl, inr, true, List, [], ◌∷◌, ◌++◌, length, get_or, replicate, Option, Some, None, refl, sym, ap, ◌∙◌, arith, append-nil, append_assoc, length-append}
+use Rattle.std.proofs.Common.{◌≡◌, ℕ, ◌+◌, ◌-◌, ◌*◌, ◌/◌, ◌%◌, ◌<◌, ◌≤◌, true, List, [], ◌∷◌, ◌++◌, length, get_or, replicate, Option, Some, None, refl, sym, ap, ◌∙◌, arith, append_assoc, length-append}
 use Rattle.std.specs.Prelude.{slice_index}
-use Rattle.std.proofs.lemmas.Bool.{cases_lt}
-use Rattle.std.specs.Prelude.{unwrap_or}
-use Rattle.std.proofs.lemmas.List.{replicate_more, get_or_push, length-replicate}
+use Rattle.std.proofs.lemmas.List.{get_or_push, length-replicate}
 use Rattle.std.proofs.lemmas.Option.{get_or_from_slice_get, unwrap_or-slice_get, slice_get_past}
 use Rattle.uda_mem.proofs.PutLaws.{get_or-part}
-use Rattle.uda_image.specs.Store.{ReadsBlock, FailsToRead}
+use Rattle.uda_image.specs.Store.{ReadsBlock}
 use Rattle.uda_packet.specs.declared.guest_command.GuestOp.{GuestOp}
 use Rattle.uda_packet.specs.declared.guest_command.GuestOp.TheVariants as guest
 use Rattle.uda_exec.specs.GuestOps.{op_at, with_op}
-use Rattle.uda_exec.specs.Compare.{byte_stored, byte_held, ComparesBlocks}
-use Rattle.uda_exec.specs.Comparing.{FindsIn, count_at, ComparesBlock, FailsAtRead}
-use Rattle.uda_exec.specs.declared.compare.Verdict.TheVariants.{Equal, Differs, Lost}
+use Rattle.uda_exec.specs.Compare.{byte_stored, byte_held}
+use Rattle.uda_exec.specs.Comparing.{FindsIn, count_at, ComparesBlock}
 use Rattle.uda_exec.proofs.Words.{part, Transfer, StoreState, KeepsAttributes, block_count}
 use Rattle.uda_image.specs.Store.{is_sound}
 
@@ -47,16 +44,11 @@ compares_block t k found old new memory block window reads is finds = record {
       let here = get_or_from_slice_get old.blocks (t.lbn + k) block [] reads.value in
       rw (div, rest, here) refl)
       (λ i below.
-      ap (λ (w : List ℕ). get_or w i 0) is ∙ get_or-part memory (t.buffer + 512 * k) (count_at t k) i 0 below
-      ∙ ap (λ j. get_or memory j 0) (omega arith)) finds;
-  blocks_stay = ap (λ (s : StoreState). s.blocks) reads.state_stays;
-  failures_stay = ap (λ (s : StoreState). s.failures) reads.state_stays;
-}
-
-pub loses_read : (old new : StoreState) → FailsToRead old new → FailsAtRead old new
-loses_read old new fails = record {
-  blocks_stay = ap (λ (s : StoreState). s.blocks) fails.counted;
-  counted = ap (λ (s : StoreState). s.failures) fails.counted;
+      rw (is, get_or-part memory (t.buffer + 512 * k) (count_at t k) i 0 below)
+      (ap (λ j. get_or memory j 0) (omega arith)))
+      finds;
+  blocks_stay = rw reads.state_stays refl;
+  failures_stay = rw reads.state_stays refl;
 }
 
 -- ---- a range of blocks
@@ -74,71 +66,6 @@ pub record Comparing (t : Transfer) (done : ℕ) (old : StoreState) (memory : Li
   pub within : done ≤ block_count t
   pub so_far : is_sound now ≡ true → SameSoFar t done old memory now
 
-pub same_at_first : (t : Transfer) (old : StoreState) (memory : List ℕ) → SameSoFar t 0 old memory old
-same_at_first t old memory =
-    record { same = λ i below within. absurd (omega arith); blocks_stay = refl; failures_stay = refl }
-
-module _ (t : Transfer) (done : ℕ) (old now new : StoreState) (memory : List ℕ)
-    (so_far : SameSoFar t done old memory now) where
-  -- a byte of the next block
-  here : (j : ℕ) → byte_stored t now.blocks (512 * done + j) ≡ byte_held t memory (512 * done + j)
-      → byte_stored t old.blocks (512 * done + j) ≡ byte_held t memory (512 * done + j)
-  here j is = ap (λ (b : List (List ℕ)). byte_stored t b (512 * done + j)) (sym so_far.blocks_stay) ∙ is
-
-  before : (n : ℕ) → n ≤ 512 → ((j : ℕ) → j < n → byte_stored t now.blocks (512 * done + j)
-      ≡ byte_held t memory (512 * done + j)) → (i : ℕ) → i < 512 * done + n → i < t.bytes
-      → byte_stored t old.blocks i ≡ byte_held t memory i
-  before n few all i below within = elim (cases_lt i (512 * done)) [
-    | inl low ↦ so_far.same i low within
-    | inr from ↦
-        let is : 512 * done + (i - 512 * done) ≡ i = omega arith in
-        let same = here (i - 512 * done) (all (i - 512 * done) (omega arith)) in
-        rw is at same
-  ]
-
-  pub same_next : done < block_count t → ComparesBlock t done None now memory new
-      → SameSoFar t (done + 1) old memory new
-  same_next inside c = record {
-    same = λ i below within.
-        elim (cases_lt i (512 * done)) [
-          | inl low ↦ so_far.same i low within
-          | inr from ↦
-              let is : 512 * done + (i - 512 * done) ≡ i = omega arith in
-              let same = here (i - 512 * done) (c.finds (i - 512 * done) (omega arith)) in
-              rw is at same
-        ];
-    blocks_stay = c.blocks_stay ∙ so_far.blocks_stay;
-    failures_stay = c.failures_stay ∙ so_far.failures_stay;
-  }
-
-  pub differs_here : (at : ℕ) → ComparesBlock t done (Some at) now memory new
-      → ComparesBlocks t (Differs (512 * done + at)) old memory new
-  differs_here at c = record {
-    verdict = record {
-      same = λ i below.
-          before at (omega (arith, c.finds.0)) c.finds.1.same i below (omega (arith, c.finds.0));
-      other = λ same. c.finds.1.other
-          (ap (λ (b : List (List ℕ)). byte_stored t b (512 * done + at)) so_far.blocks_stay ∙ same);
-    };
-    blocks_stay = c.blocks_stay ∙ so_far.blocks_stay;
-    failures_are = omega (arith, c.failures_stay, so_far.failures_stay);
-  }
-
-  pub lost_here : done < block_count t → FailsAtRead now new → ComparesBlocks t (Lost done) old memory new
-  lost_here inside lost = record {
-    verdict = λ i below. so_far.same i below (omega arith);
-    blocks_stay = lost.blocks_stay ∙ so_far.blocks_stay;
-    failures_are = omega (arith, lost.counted, so_far.failures_stay);
-  }
-
-pub all_same : (t : Transfer) (done : ℕ) (old now : StoreState) (memory : List ℕ) → block_count t ≤ done
-    → SameSoFar t done old memory now → ComparesBlocks t Equal old memory now
-all_same t done old now memory past so_far = record {
-  verdict = λ i below. so_far.same i (omega arith) below;
-  blocks_stay = so_far.blocks_stay;
-  failures_are = omega (arith, so_far.failures_stay);
-}
-
 -- ---- the additional operation of each command
 
 -- the list, filled up to this length
@@ -147,33 +74,6 @@ pub record Padded (old : List GuestOp) (place : ℕ) (now : List GuestOp) : Type
   pub further : length old ≤ length now
   pub is : now ≡ old ++ replicate (length now - length old) guest.Basic
 
-pub padded_first : (old : List GuestOp) (place : ℕ) → length old ≤ place → Padded old place old
-padded_first old place h =
-    let none : length old - length old ≡ 0 = omega arith in
-    record { within = h; further = omega arith; is = rw none (sym (append-nil old)) }
-
-pub padded_next : (old now new : List GuestOp) (place : ℕ) → Padded old place now → length now < place
-    → new ≡ now ++ guest.Basic ∷ [] → length new ≡ length now + 1 → Padded old place new
-padded_next old now new place p below is longer =
-    let more : length new - length old ≡ (length now - length old) + 1 = omega (arith, p.further) in
-    record {
-      within = omega (arith, longer);
-      further = omega (arith, longer, p.further);
-      is = is ∙ ap (λ (xs : List GuestOp). xs ++ guest.Basic ∷ []) p.is
-          ∙ append_assoc old (replicate (length now - length old) guest.Basic) (guest.Basic ∷ [])
-          ∙ ap (λ (xs : List GuestOp). old ++ xs) (replicate_more (length now - length old) guest.Basic)
-          ∙ ap (λ (n : ℕ). old ++ replicate n guest.Basic) (sym more);
-    }
-
-pub padded_last : (old now new : List GuestOp) (place : ℕ) (op : GuestOp) → Padded old place now
-    → place ≤ length now → new ≡ now ++ op ∷ []
-    → new ≡ old ++ (replicate (place - length old) guest.Basic ++ op ∷ [])
-padded_last old now new place op p full is =
-    let here : length now ≡ place = omega (arith, p.within) in
-    is ∙ ap (λ (xs : List GuestOp). xs ++ op ∷ []) (p.is ∙ ap (λ (n : ℕ). old
-    ++ replicate (n - length old) guest.Basic) here)
-    ∙ append_assoc old (replicate (place - length old) guest.Basic) (op ∷ [])
-
 -- the additional operation of the last command is found at its index
 op_last : (place : ℕ) (ops : List GuestOp) (op : GuestOp) → length ops ≤ place
     → op_at (ops ++ (replicate (place - length ops) guest.Basic ++ op ∷ [])) place ≡ op
@@ -181,12 +81,9 @@ op_last place ops op past =
     let more = replicate (place - length ops) guest.Basic in
     let front : length (ops ++ more) ≡ place =
     omega (arith, length-append ops more, length-replicate (place - length ops) guest.Basic, past) in
-    unwrap_or-slice_get (ops ++ (more ++ op ∷ [])) place guest.Basic
-    ∙ ap (λ (l : List GuestOp). get_or l place guest.Basic) (sym (append_assoc ops more (op ∷ [])))
-    ∙ get_or_push (ops ++ more) op guest.Basic place front
+    rw (unwrap_or-slice_get, ← append_assoc ops more (op ∷ [])) (get_or_push (ops ++ more) op guest.Basic place front)
 
 pub op_noted : (op : GuestOp) (place : ℕ) (ops : List GuestOp) → length ops ≤ place
     → op_at (with_op op place ops) place ≡ op
-op_noted guest.Basic place ops past = ap (λ o. unwrap_or o guest.Basic) (slice_get_past ops place past)
-op_noted guest.SetUnit place ops past = op_last place ops guest.SetUnit past
-op_noted guest.Compare place ops past = op_last place ops guest.Compare past
+op_noted guest.Basic place ops past = rw (slice_get_past ops place past) refl
+op_noted op place ops past = op_last place ops op past

@@ -16,7 +16,6 @@ pub mod OrderExamples
 pub mod NamedLaws
 pub mod Comparisons
 pub mod OnlyOne
-pub mod Removals
 pub mod Saving
 pub mod Written
 pub mod BlockChangesLaw

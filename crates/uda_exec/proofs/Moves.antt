@@ -32,10 +32,9 @@ module _ (t : Transfer) (k : ℕ) (old : StoreState) (memory : List ℕ) (new : 
   reads_block keeps to memory_after (Ok u) whole due e h = record {
     stands = record {
       in_memory = rw (due ∙ get_or_from_slice_get old.blocks (t.lbn + k) to [] h.value) e;
-      in_store = rw keeps (ap (λ (s : StoreState). s.blocks) h.state_stays
-          ∙ sym (put-nil old.blocks (t.lbn + k)));
+      in_store = rw (keeps, h.state_stays, put-nil) refl;
     };
-    failures_stay = ap (λ (s : StoreState). s.failures) h.state_stays;
+    failures_stay = rw h.state_stays refl;
     calls = h.calls;
   }
   reads_block keeps to memory_after (Err f) whole due e h = record {
@@ -43,10 +42,9 @@ module _ (t : Transfer) (k : ℕ) (old : StoreState) (memory : List ℕ) (new : 
     whole = whole;
     stands = record {
       in_memory = e;
-      in_store =
-          rw keeps (ap (λ (s : StoreState). s.blocks) h.counted ∙ sym (put-nil old.blocks (t.lbn + k)));
+      in_store = rw (keeps, h.counted, put-nil) refl;
     };
-    counted = ap (λ (s : StoreState). s.failures) h.counted;
+    counted = rw h.counted refl;
     calls = h.calls;
   }
 
@@ -56,22 +54,20 @@ module _ (t : Transfer) (k : ℕ) (old : StoreState) (memory : List ℕ) (new : 
       → EndsBlock t k old memory new memory result
   writes_block changes keeps from (Ok u) due h = record {
     stands = record {
-      in_memory = rw keeps (sym (put-nil memory (t.buffer + 512 * k)));
-      in_store = rw (due, changes) (ap (λ (s : StoreState). s.blocks) h.written
-          ∙ set-put old.blocks (t.lbn + k) from);
+      in_memory = rw (keeps, put-nil) refl;
+      in_store = rw (due, changes, h.written) (set-put old.blocks (t.lbn + k) from);
     };
-    failures_stay = ap (λ (s : StoreState). s.failures) h.written;
+    failures_stay = rw h.written refl;
     calls = h.calls;
   }
   writes_block changes keeps from (Err e) due h = record {
     left = h.left;
     whole = h.whole;
     stands = record {
-      in_memory = rw keeps (sym (put-nil memory (t.buffer + 512 * k)));
-      in_store = rw changes (ap (λ (s : StoreState). s.blocks) h.written
-          ∙ set-put old.blocks (t.lbn + k) h.left);
+      in_memory = rw (keeps, put-nil) refl;
+      in_store = rw (changes, h.written) (set-put old.blocks (t.lbn + k) h.left);
     };
-    counted = ap (λ (s : StoreState). s.failures) h.written;
+    counted = rw h.written refl;
     calls = h.calls;
   }
 
@@ -83,7 +79,6 @@ pub due-Write : (t : Transfer) (k : ℕ) (memory : List ℕ) → k < block_count
 due-Write t k memory inside room =
     let rest : ℕ = t.bytes - 512 * k in
     let size = length-part-le memory t.buffer t.bytes room in
-    ap (λ (bytes : List ℕ). get_or (in_blocks bytes) k []) (bytes_at-within memory t.buffer t.bytes room)
-    ∙ get_or-in_blocks k rest (part memory t.buffer t.bytes) (rw size inside) (omega (arith, size))
-    (omega (arith, size))
-    ∙ ap first_block (part-part memory t.buffer t.bytes (512 * k) rest (omega arith))
+    rw (bytes_at-within memory t.buffer t.bytes room)
+    (get_or-in_blocks k rest (part memory t.buffer t.bytes) (rw size inside) (omega (arith, size)) (omega (arith, size))
+    ∙ ap first_block (part-part memory t.buffer t.bytes (512 * k) rest (omega arith)))

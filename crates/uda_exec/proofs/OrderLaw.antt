@@ -1,21 +1,18 @@
 -- Whichever eligible command is executed first, the result is the same; and what else a driver needs of a
 -- list of commands.
-use Rattle.std.proofs.Common.{◌≡◌, ℕ, ◌+◌, ◌-◌, inl, inr, min, ◌<◌, List, [], ◌∷◌, ◌++◌, length, get_or, take, replicate, Option, Some, None, refl, sym, ap, ap₂, subst₂, ◌∙◌, arith}
+use Rattle.std.proofs.Common.{◌≡◌, ℕ, ◌+◌, ◌-◌, min, ◌<◌, List, [], ◌∷◌, length, get_or, take, replicate, Option, Some, None, refl, sym, ap, ap₂, ◌∙◌, arith}
 use Rattle.std.specs.Prelude.{slice_get, option_map}
 use Rattle.std.proofs.lemmas.List.{same_lists, take_at}
-use Rattle.std.proofs.lemmas.Bool.{cases_lt}
 use Rattle.std.proofs.lemmas.List.Elements.{All-head, All-tail}
 use Rattle.std.proofs.lemmas.Option.{slice_get-map, slice_get_within, get_or_from_slice_get}
 use Rattle.uda_mem.proofs.PutLaws.{length-put, length-part, get_or-part, get_or-put_before, get_or-put_at, get_or-put_behind, put-put_comm}
-use Rattle.uda_packet.specs.declared.end.Kind.TheVariants as kind
-use Rattle.uda_disk.specs.Request as ask
+use Rattle.uda_packet.specs.declared.command.Op.TheVariants as op
 use Rattle.uda_disk.proofs.Runs.{first_is_free, runs-push}
 use Rattle.uda_disk.proofs.Swap as item
 use Rattle.uda_disk.proofs.Swap.{Told, judge}
-use Rattle.uda_exec.specs.Commands.{act_by}
-use Rattle.uda_exec.proofs.Words.{put, part, Overlap, Command, Op, Kind, Transfer, transfer_of, End, Disks, Act, buffer_start, buffer_length, bytes_at, asks_by, act_of, World, AreIndependent, FixedCommand, commands_of, effect_of, effects, OrderIsIrrelevant, OneMore, with_bytes, PassesThrough, SameData, DependsOnDataAlone}
-use Rattle.uda_exec.proofs.Requests.{asks, act_of-put}
-use Rattle.uda_exec.proofs.Swap.{swaps, item_of, lands, effect-lands, effect-none, behind, length-told}
+use Rattle.uda_exec.proofs.Words.{end_for, put, part, Overlap, Command, Op, End, Disks, Act, buffer_start, buffer_length, bytes_at, act_of, World, FixedCommand, commands_of, effect_of, effects, OrderIsIrrelevant, OneMore, with_bytes, PassesThrough, SameData, DependsOnDataAlone}
+use Rattle.uda_exec.proofs.Requests.{asks, act_of-put, act_shared}
+use Rattle.uda_exec.proofs.Swap.{swaps, item_of, effect-lands, effect-none, behind, length-told}
 
 pub order_is_irrelevant : OrderIsIrrelevant
 order_is_irrelevant xs j x w apart goes at =
@@ -29,7 +26,7 @@ order_is_irrelevant xs j x w apart goes at =
     let is_y = get_or_from_slice_get (commands_of xs) i y.command x.command there_command in
     let is_x = get_or_from_slice_get (commands_of xs) j x.command x.command at_command in
     swaps x y v (goes.may_overtake i y.command x.command below there_command at_command)
-    (subst₂ AreIndependent is_y is_x (apart i j x.command below place)))
+    (rw (is_y, is_x) at (apart i j x.command below place)))
 
 pub one_more : OneMore
 one_more xs x w = runs-push effect_of xs x w
@@ -40,20 +37,19 @@ passes_one : (x : FixedCommand) (w : World) (at : ℕ) (bytes : List ℕ)
     → (asked : Option Act) → act_of x.command.op w.memory ≡ asked → effect_of x (with_bytes w at bytes)
     ≡ ((effect_of x w).0, with_bytes (effect_of x w).1 at bytes)
 passes_one x w at bytes beside None is =
-    let behind_it : End × World → End × World = λ r. (r.0, with_bytes r.1 at bytes) in
-    effect-none x (with_bytes w at bytes) (act_of-put x.command.op w.memory at bytes beside ∙ is)
-    ∙ sym (ap behind_it (effect-none x w is))
+    rw (
+      effect-none x (with_bytes w at bytes) (act_of-put x.command.op w.memory at bytes beside ∙ is),
+      effect-none x w is,
+    ) refl
 passes_one x w at bytes beside (Some act) is =
     let c = x.command in
     let it = item_of x act (length w.memory) in
     let r = item.does it w.disks in
-    let behind_it : End × World → End × World = λ r. (r.0, with_bytes r.1 at bytes) in
     let little = length-told x act (length w.memory) (judge it (slice_get w.disks c.unit))
     (asks c.op w.memory act is) in
-    let make : List ℕ → End × World = λ m. ((lands c w.memory r).0, record { memory = m; disks = r.1 }) in
-    behind x act w at bytes w.disks is beside
-    ∙ ap make (put-put_comm w.memory at bytes (buffer_start c.op) r.0.1 (λ meet. beside (omega arith)))
-    ∙ sym (ap behind_it (effect-lands x act w is))
+    rw (behind x act w at bytes w.disks is beside, effect-lands x act w is)
+    (ap (λ (m : List ℕ). (end_for c r.0.0, record { memory = m; disks = r.1 }))
+    (put-put_comm w.memory at bytes (buffer_start c.op) r.0.1 (λ meet. beside (omega arith))))
 
 pub passes_through : PassesThrough
 passes_through [] at bytes w beside = refl
@@ -62,9 +58,12 @@ passes_through (x ∷ rest) at bytes w beside =
     (buffer_length a.command.op) → ⊥ in
     let now = passes_one x w at bytes (All-head P x rest beside) _ refl in
     let later = passes_through rest at bytes (effect_of x w).1 (All-tail P x rest beside) in
-    let step : End × World → List End × World = λ r. let more = effects rest r.1 in (r.0 ∷ more.0, more.1) in
-    let behind_it : List End × World → List End × World = λ r. ((effect_of x w).0 ∷ r.0, r.1) in
-    ap step now ∙ ap behind_it later
+    rw (now, later) refl
+
+-- an item that two lists share is still shared when the same is put into both
+put_both : (xs ys : List ℕ) (at : ℕ) (new : List ℕ) (i d : ℕ) → i < length xs → i < length ys
+    → get_or xs i d ≡ get_or ys i d → get_or (put xs at new) i d ≡ get_or (put ys at new) i d
+put_both xs ys at new i d within within' shared = grind (arith, get_or-put_before, get_or-put_at, get_or-put_behind)
 
 -- a part that two lists share is still shared when the same is put into both
 part-put_both : (xs ys : List ℕ) (at : ℕ) (new : List ℕ) (a n : ℕ) → length xs ≡ length ys
@@ -77,16 +76,8 @@ part-put_both xs ys at new a n same h =
     let within : a + k < length xs = omega arith in let within' : a + k < length ys = omega arith in
     let shared : get_or xs (a + k) d ≡ get_or ys (a + k) d = sym (get_or-part xs a n k d inside)
     ∙ ap (λ (p : List ℕ). get_or p k d) h ∙ get_or-part ys a n k d inside in
-    get_or-part (put xs at new) a n k d inside ∙ elim (cases_lt (a + k) at) [
-      | inl low ↦ get_or-put_before xs at new (a + k) d within low ∙ shared
-          ∙ sym (get_or-put_before ys at new (a + k) d within' low)
-      | inr from ↦ elim (cases_lt (a + k) (at + length new)) [
-        | inl to ↦ get_or-put_at xs at new (a + k) d within from to
-            ∙ sym (get_or-put_at ys at new (a + k) d within' from to)
-        | inr high ↦ get_or-put_behind xs at new (a + k) d within high ∙ shared
-            ∙ sym (get_or-put_behind ys at new (a + k) d within' high)
-      ]
-    ] ∙ sym (get_or-part (put ys at new) a n k d inside))
+    get_or-part (put xs at new) a n k d inside ∙ put_both xs ys at new (a + k) d within within' shared
+    ∙ sym (get_or-part (put ys at new) a n k d inside))
 
 -- equal bytes of a Write in two memories of one length mean that they share its buffer
 part-shared : (memory other : List ℕ) (at n : ℕ) → length memory ≡ length other → bytes_at memory at n
@@ -98,30 +89,13 @@ part-shared memory other at n same h =
     ∙ ap (take (length (part memory at n))) h
     ∙ take_at (part other at n) (rest other) (length (part memory at n)) (omega (arith, same))
 
-asks_by-put_both : (k : Kind) (t : Transfer) (memory other : List ℕ) (at : ℕ) (bytes : List ℕ)
-    → length memory ≡ length other → asks_by k t memory ≡ asks_by k t other
-    → asks_by k t (put memory at bytes) ≡ asks_by k t (put other at bytes)
-asks_by-put_both kind.Access t memory other at bytes same h = refl
-asks_by-put_both kind.Erase t memory other at bytes same h = refl
-asks_by-put_both kind.Read t memory other at bytes same h = refl
-asks_by-put_both kind.Write t memory other at bytes same h =
-    let asked : bytes_at memory t.buffer t.bytes ≡ bytes_at other t.buffer t.bytes = cc in
-    let shared = part-shared memory other t.buffer t.bytes same asked in
-    ap (λ (part : List ℕ). ask.Write t.lbn (part ++ replicate (t.bytes - length part) 0))
-    (part-put_both memory other at bytes t.buffer t.bytes same shared)
-
-act_by-put_both : (found : Option Transfer) (o : Op) (memory other : List ℕ) (at : ℕ) (bytes : List ℕ)
-    → length memory ≡ length other → act_by found o memory ≡ act_by found o other
-    → act_by found o (put memory at bytes) ≡ act_by found o (put other at bytes)
-act_by-put_both None o memory other at bytes same h = refl
-act_by-put_both (Some t) o memory other at bytes same h =
-    let asked : asks_by t.kind t memory ≡ asks_by t.kind t other = cc in
-    ap (λ (a : Act). Some a) (asks_by-put_both t.kind t memory other at bytes same asked)
-
 act_of-put_both : (o : Op) (memory other : List ℕ) (at : ℕ) (bytes : List ℕ) → length memory ≡ length other
     → act_of o memory ≡ act_of o other → act_of o (put memory at bytes) ≡ act_of o (put other at bytes)
-act_of-put_both o memory other at bytes same h =
-    act_by-put_both (transfer_of o) o memory other at bytes same h
+act_of-put_both (op.Write n address lbn) memory other at bytes same h =
+    let asked : bytes_at memory address n ≡ bytes_at other address n = cc in
+    act_shared (op.Write n address lbn) (put other at bytes) (put memory at bytes)
+    (part-put_both memory other at bytes address n same (part-shared memory other address n same asked))
+act_of-put_both _ memory other at bytes same h = refl
 
 -- one command with the same action in two memories: one end message, the same units, and memories that agree
 -- as before
@@ -136,22 +110,23 @@ agrees_one : (x : FixedCommand) (memory other : List ℕ) (disks : Disks) → le
     → Agrees memory other (effect_of x (record { memory = memory; disks = disks }))
     (effect_of x (record { memory = other; disks = disks }))
 agrees_one x memory other disks same None is is' =
-    subst₂ (Agrees memory other) (sym (effect-none x (record { memory = memory; disks = disks }) is))
-    (sym (effect-none x (record { memory = other; disks = disks }) is'))
+    rw (
+      effect-none x (record { memory = memory; disks = disks }) is,
+      effect-none x (record { memory = other; disks = disks }) is',
+    )
     (record { ends = refl; units = refl; same_length = same; same_acts = λ o g. g })
 agrees_one x memory other disks same (Some act) is is' =
-    let c = x.command in
-    let r = item.does (item_of x act (length memory)) disks in
-    let there : effect_of x (record { memory = other; disks = disks }) ≡ lands c other r =
-    effect-lands x act (record { memory = other; disks = disks }) is'
-    ∙ ap (λ (n : ℕ). lands c other (item.does (item_of x act n) disks)) (sym same) in
-    subst₂ (Agrees memory other) (sym (effect-lands x act (record { memory = memory; disks = disks }) is))
-    (sym there) (record {
+    let start = buffer_start x.command.op in
+    let bytes = (item.does (item_of x act (length memory)) disks).0.1 in
+    rw (
+      effect-lands x act (record { memory = memory; disks = disks }) is,
+      effect-lands x act (record { memory = other; disks = disks }) is',
+      ← same,
+    ) (record {
       ends = refl;
       units = refl;
-      same_length = length-put memory (buffer_start c.op) r.0.1 ∙ same
-          ∙ sym (length-put other (buffer_start c.op) r.0.1);
-      same_acts = λ o g. act_of-put_both o memory other (buffer_start c.op) r.0.1 same g;
+      same_length = length-put memory start bytes ∙ same ∙ sym (length-put other start bytes);
+      same_acts = λ o g. act_of-put_both o memory other start bytes same g;
     })
 
 pub depends_on_data_alone : DependsOnDataAlone

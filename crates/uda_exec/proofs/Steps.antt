@@ -1,52 +1,42 @@
 -- A transfer block by block: the effect of the first k blocks, one block more, and the end message.
-use Rattle.std.proofs.Common.{◌≡◌, ℕ, suc, ◌+◌, ◌-◌, ◌*◌, ◌<◌, ◌≤◌, Bool, true, false, List, [], ◌∷◌, ◌++◌, length, get_or, take, replicate, refl, sym, ap, subst, ◌∙◌, arith, add-one, append-nil}
+use Rattle.std.proofs.Common.{zero-le, ◌≡◌, ℕ, suc, ◌+◌, ◌-◌, ◌*◌, ◌<◌, ◌≤◌, Bool, true, false, List, [], ◌∷◌, ◌++◌, length, get_or, take, replicate, refl, sym, ap, ◌∙◌, arith, add-one}
 use Rattle.std.specs.Prelude.{if◌then◌else◌}
 use Rattle.std.specs.List.{concat}
 use Rattle.std.proofs.lemmas.List.{take_more, take_all, length-take-le, length-replicate}
-use Rattle.std.proofs.lemmas.List.Folds.{concat-append}
 use Rattle.std.proofs.lemmas.List.Elements.{All-replicate}
-use lib.Seq.{take-append-add}
-use Rattle.uda_mem.proofs.PutLaws.{put-nil, put-put_next, length-part, length-part-le}
-use Rattle.uda_packet.specs.declared.end.Kind.TheVariants.{Access, Erase, Read, Write}
+use Rattle.uda_mem.proofs.PutLaws.{put-nil, put-put_next, length-part}
+use Rattle.uda_packet.specs.declared.end.Kind.TheVariants.{Erase, Write}
 use Rattle.uda_image.specs.StoreLaws.{length-first_chunks}
-use Rattle.uda_exec.proofs.Words.{put, part, Kind, Transfer, changes_blocks, StoreState, KeepsAttributes, HasWholeBlocks, blocks_for, bytes_at, block_count, transfer_buffer_length, changes_memory, ChangesAt, due_by, blocks_due, bytes_landing, bytes_landing_of, blocks_stored, Stands, MovesBlock, FailsAtBlock, Progress, StopsAt, MovesOn}
+use Rattle.uda_exec.proofs.Words.{put, part, Kind, Transfer, changes_blocks, StoreState, KeepsAttributes, HasWholeBlocks, blocks_for, bytes_at, block_count, transfer_buffer_length, changes_memory, ChangesAt, due_by, blocks_due, Stands, MovesBlock, FailsAtBlock, Progress, StopsAt, MovesOn}
 use Rattle.uda_exec.proofs.Changes.{changes_again}
 use Rattle.uda_exec.proofs.Calls.{go_none, go_next, fails_then}
-use Rattle.uda_exec.proofs.Blocks.{AreBlocks, AreBlocks-part, AreBlocks-take, AreBlocks-in_blocks, length-bytes_at, length-concat_blocks}
+use Rattle.uda_exec.specs.Transfers.{Stand}
+use Rattle.uda_exec.proofs.Blocks.{length-concat_take, concat_push, take_behind, AreBlocks, AreBlocks-part, AreBlocks-in_blocks, length-bytes_at}
 use Rattle.uda_image.specs.Store.{is_sound}
 use Rattle.uda_image.proofs.SoundLaws.{sound_before}
 
+length-part_there : (blocks : List (List ℕ)) (at n : ℕ) → (0 < n → at + n ≤ length blocks)
+    → length (part blocks at n) ≡ n
+length-part_there blocks at n there = grind (arith, length-part blocks at n)
+
 module _ (t : Transfer) (blocks : List (List ℕ)) (memory : List ℕ) where
-  -- a Write has as many blocks as its count needs
-  length-due_Write : length (due_by Write t blocks memory) ≡ block_count t
-  length-due_Write =
+  -- as many blocks as the count needs; if there are any, those of a Read or an Access are on the unit
+  pub length-due_by : (kind : Kind)
+      → (changes_blocks kind ≡ false → 0 < block_count t → t.lbn + block_count t ≤ length blocks)
+      → length (due_by kind t blocks memory) ≡ block_count t
+  length-due_by Erase on_unit = length-replicate (block_count t) (replicate 512 0)
+  length-due_by Write on_unit =
       let bytes = bytes_at memory t.buffer t.bytes in
       length-first_chunks (blocks_for (length bytes)) (bytes ++ replicate 512 0)
       ∙ ap blocks_for (length-bytes_at memory t.buffer t.bytes)
-
-  pub length-due_by : t.lbn + block_count t ≤ length blocks → (kind : Kind)
-      → length (due_by kind t blocks memory) ≡ block_count t
-  length-due_by on_unit Erase = length-replicate (block_count t) (replicate 512 0)
-  length-due_by on_unit Write = length-due_Write
-  length-due_by on_unit Read = length-part-le blocks t.lbn (block_count t) on_unit
-  length-due_by on_unit Access = length-part-le blocks t.lbn (block_count t) on_unit
-
-  pub length-due_le : (kind : Kind) → length (due_by kind t blocks memory) ≤ block_count t
-  length-due_le Erase =
-      let all : length (due_by Erase t blocks memory) ≡ block_count t = length-replicate (block_count t)
-      (replicate 512 0) in
-      omega arith
-  length-due_le Write = omega (arith, length-due_Write)
-  length-due_le Read = omega (arith, length-part blocks t.lbn (block_count t))
-  length-due_le Access = omega (arith, length-part blocks t.lbn (block_count t))
+  length-due_by _ on_unit = length-part_there blocks t.lbn (block_count t) (on_unit refl)
 
   -- if the unit's blocks are whole, or there are none to move
   pub AreBlocks-due_by : (0 < block_count t → AreBlocks blocks) → (kind : Kind)
       → AreBlocks (due_by kind t blocks memory)
   AreBlocks-due_by are Erase = All-replicate (λ b. length b ≡ 512) (block_count t) (replicate 512 0) refl
   AreBlocks-due_by are Write = AreBlocks-in_blocks (bytes_at memory t.buffer t.bytes)
-  AreBlocks-due_by are Read = AreBlocks-part blocks t.lbn (block_count t) are
-  AreBlocks-due_by are Access = AreBlocks-part blocks t.lbn (block_count t) are
+  AreBlocks-due_by are _ = AreBlocks-part blocks t.lbn (block_count t) are
 
   pub AreBlocks-due : (0 < block_count t → AreBlocks blocks) → AreBlocks (blocks_due t blocks memory)
   AreBlocks-due are = AreBlocks-due_by are t.kind
@@ -58,10 +48,8 @@ due_by-stays : (kind : Kind) (t : Transfer) (blocks : List (List ℕ)) (memory b
     (put memory at (if changes_memory kind then bytes else [])) ≡ due_by kind t blocks memory
 due_by-stays Erase t blocks memory bytes blocks_written at place = refl
 due_by-stays Write t blocks memory bytes blocks_written at place = rw put-nil refl
-due_by-stays Read t blocks memory bytes blocks_written at place =
-    ap (λ (b : List (List ℕ)). part b t.lbn (block_count t)) (put-nil blocks place)
-due_by-stays Access t blocks memory bytes blocks_written at place =
-    ap (λ (b : List (List ℕ)). part b t.lbn (block_count t)) (put-nil blocks place)
+due_by-stays _ t blocks memory bytes blocks_written at place =
+    rw put-nil refl
 
 -- more after what is there, if there is any
 more_behind : {A : Type 0} (b : Bool) (xs : List A) (at n : ℕ) (front more : List A) → length front ≡ n
@@ -76,13 +64,8 @@ landing_behind : (b : Bool) (memory : List ℕ) (at count n : ℕ) (front more :
     → put (put memory at (if b then take count front else [])) (at + n)
     (if b then take (count - n) more else []) ≡ put memory at (if b then take count (front ++ more) else [])
 landing_behind true memory at count n front more size fits =
-    let rest : List ℕ = take (count - n) more in
-    let reach : count ≡ length front + (count - n) = omega (arith, size, fits) in
-    let before : take count front ≡ front = take_all count front (omega (arith, size, fits)) in
-    let both : take count (front ++ more) ≡ front ++ rest = ap (λ (i : ℕ). take i (front ++ more)) reach
-    ∙ take-append-add front more (count - n) in
-    ap (λ (z : List ℕ). put (put memory at z) (at + n) rest) before ∙ put-put_next memory at front rest
-    (at + n) (omega (arith, size)) ∙ ap (λ (z : List ℕ). put memory at z) (sym both)
+    rw (take_all count front (omega arith), take_behind count n front more size fits)
+    (put-put_next memory at front (take (count - n) more) (at + n) (omega arith))
 landing_behind false memory at count n front more size fits = put-nil _ _
 
 module _ (t : Transfer) (k : ℕ) (old : StoreState) (memory : List ℕ) (now : StoreState) (memory_now : List ℕ)
@@ -93,28 +76,24 @@ module _ (t : Transfer) (k : ℕ) (old : StoreState) (memory : List ℕ) (now : 
   front = take k (blocks_due t old.blocks memory)
 
   all_due : length (blocks_due t old.blocks memory) ≡ block_count t
-  all_due = length-due_by t old.blocks memory (rw image.counted on_unit) t.kind
+  all_due = length-due_by t old.blocks memory t.kind (λ reads some. rw image.counted on_unit)
 
   -- the next block of any content follows the first k
   joins : (x : List ℕ) (new : StoreState) (memory_after : List ℕ)
       → Stands t k x now memory_now new memory_after
-      → (memory_after ≡ put memory t.buffer (bytes_landing t (front ++ x ∷ [])))
-      × (new.blocks ≡ put old.blocks t.lbn (blocks_stored t (front ++ x ∷ [])))
+      → Stand t (front ++ x ∷ []) old memory new memory_after
   joins x new memory_after s =
-      let size : length front ≡ k = length-take-le k (blocks_due t old.blocks memory)
+      let due = blocks_due t old.blocks memory in
+      let bytes = length-concat_take due k (AreBlocks-due t old.blocks memory (λ some. image.whole))
       (omega (arith, all_due)) in
-      let bytes = length-concat_blocks front
-      (AreBlocks-take (blocks_due t old.blocks memory) k
-      (AreBlocks-due t old.blocks memory (λ some. image.whole))) in
-      let bytes_are : length (concat front) ≡ 512 * k = bytes ∙ ap (λ i. 512 * i) size in
-      let joined : concat (front ++ x ∷ []) ≡ concat front ++ x = concat-append front (x ∷ [])
-      ∙ ap (λ (z : List ℕ). concat front ++ z) (append-nil x) in (
-        s.in_memory ∙ ap (λ (m : List ℕ). put m (t.buffer + 512 * k) (bytes_landing_of t k x))
-            h.stand.in_memory ∙ rw joined (landing_behind (changes_memory t.kind) memory t.buffer t.bytes
-            (512 * k) (concat front) x bytes_are (omega arith)),
-        s.in_store ∙ ap (λ (b : List (List ℕ)). put b (t.lbn + k) (blocks_stored t (x ∷ []))) h.stand.in_store
-            ∙ more_behind (changes_blocks t.kind) old.blocks t.lbn k front (x ∷ []) size,
-      )
+      record {
+        in_memory = rw (s.in_memory, h.stand.in_memory, concat_push)
+            (landing_behind (changes_memory t.kind) memory t.buffer
+            t.bytes (512 * k) (concat front) x bytes (omega arith));
+        in_store = rw (s.in_store, h.stand.in_store) (more_behind (changes_blocks t.kind) old.blocks t.lbn k front
+            (x ∷ [])
+            (length-take-le k due (omega (arith, all_due))));
+      }
 
   pub progress_next : (new : StoreState) (memory_after : List ℕ)
       → MovesBlock t k now memory_now new memory_after → Progress t (suc k) old memory new memory_after
@@ -124,45 +103,36 @@ module _ (t : Transfer) (k : ℕ) (old : StoreState) (memory : List ℕ) (now : 
       rw (h.stand.in_store, h.stand.in_memory)
       (due_by-stays t.kind t old.blocks memory (take t.bytes (concat front)) front t.buffer t.lbn) in
       let stands : Stands t k piece now memory_now new memory_after = rw same at m.stands in
-      let both = joins piece new memory_after stands in
       let below : k < length (blocks_due t old.blocks memory) = omega (arith, all_due) in
       let more : take (suc k) (blocks_due t old.blocks memory) ≡ front ++ piece ∷ [] =
       rw (← add-one) (take_more (blocks_due t old.blocks memory) k [] below) in
       record {
-        stand = rw more (record { in_memory = both.0; in_store = both.1 });
-        failures_stay =
-            m.failures_stay ∙ h.failures_stay;
+        stand = rw more (joins piece new memory_after stands);
+        failures_stay = m.failures_stay ∙ h.failures_stay;
         calls = go_next k _ _ _ h.calls m.calls;
       }
 
   pub progress_stops : (new : StoreState) (memory_after : List ℕ)
       → FailsAtBlock t k now memory_now new memory_after → StopsAt t k old memory new memory_after
-  progress_stops new memory_after m =
-      let both = joins m.left new memory_after m.stands in
-      record {
-        left = m.left;
-        whole = m.whole;
-        stand = record { in_memory = both.0; in_store = both.1 };
-        counted = m.counted ∙ ap (λ f. f + 1) h.failures_stay;
-        calls = fails_then k _ _ _ h.calls m.calls;
-      }
+  progress_stops new memory_after m = record {
+    left = m.left;
+    whole = m.whole;
+    stand = joins m.left new memory_after m.stands;
+    counted = rw h.failures_stay at m.counted;
+    calls = fails_then k _ _ _ h.calls m.calls;
+  }
 
-nothing_put : {A : Type 0} (b : Bool) (xs : List A) (at : ℕ) → xs ≡ put xs at (if b then [] else [])
-nothing_put true xs at = sym (put-nil xs at)
-nothing_put _ xs at = sym (put-nil xs at)
-
-nothing_landed : (b : Bool) (memory : List ℕ) (at count : ℕ)
-    → memory ≡ put memory at (if b then take count [] else [])
-nothing_landed true memory at count =
-    let none : take count [] ≡ [] = take_all {A = ℕ} count [] (omega arith) in
-    rw none (sym (put-nil memory at))
-nothing_landed _ memory at count = sym (put-nil memory at)
+pub nothing_if : {A : Type 0} (b : Bool) (xs : List A) → xs ≡ [] → (if b then xs else []) ≡ []
+nothing_if true xs none = none
+nothing_if false xs none = refl
 
 pub progress_none : (t : Transfer) (old : StoreState) (memory : List ℕ) → Progress t 0 old memory old memory
 progress_none t old memory = record {
   stand = record {
-    in_memory = nothing_landed (changes_memory t.kind) memory t.buffer t.bytes;
-    in_store = nothing_put (changes_blocks t.kind) old.blocks t.lbn;
+    in_memory = sym (ap (put memory t.buffer) (nothing_if (changes_memory t.kind) _
+        (take_all {A = ℕ} t.bytes [] zero-le))
+        ∙ put-nil memory t.buffer);
+    in_store = sym (ap (put old.blocks t.lbn) (nothing_if (changes_blocks t.kind) [] refl) ∙ put-nil old.blocks t.lbn);
   };
   failures_stay = refl;
   calls = go_none old.failing_call;
@@ -172,8 +142,7 @@ progress_none t old memory = record {
 pub from_start : (t : Transfer) (count : ℕ) (old : StoreState) (memory : List ℕ) (new : StoreState)
     → MovesOn t 0 count old new → Progress t count old memory new memory
 from_start t count old memory new moves =
-    subst (λ (k : ℕ). Progress t k old memory new memory) (omega arith)
-    (moves old memory memory (progress_none t old memory))
+    let same : 0 + count ≡ count = omega arith in rw same at (moves old memory memory (progress_none t old memory))
 
 -- the invariant before block k
 pub record OnTheWay (t : Transfer) (k : ℕ) (old now : StoreState) (memory memory_now : List ℕ) : Type 0 where
@@ -182,7 +151,8 @@ pub record OnTheWay (t : Transfer) (k : ℕ) (old now : StoreState) (memory memo
   pub changes : ChangesAt memory t.buffer (if changes_memory t.kind then t.bytes else 0) memory_now
   pub moves : (0 < block_count t → is_sound now ≡ true) → Progress t k old memory now memory_now
 
-both_natures : {old now new : StoreState} → KeepsAttributes old now → KeepsAttributes now new → KeepsAttributes old new
+pub both_natures : {old now new : StoreState} → KeepsAttributes old now → KeepsAttributes now new
+    → KeepsAttributes old new
 both_natures was is = record {
   size_stays = is.size_stays ∙ was.size_stays;
   faithful_stays = is.faithful_stays ∙ was.faithful_stays;

@@ -1,11 +1,10 @@
 -- The complete effect of a transfer that succeeds, fails or is rejected; and that of a command that moves no
 -- blocks.
-use Rattle.std.proofs.Common.{◌≡◌, ℕ, suc, ◌+◌, ◌*◌, ◌<◌, ◌≤◌, zero-le, inl, inr, Bool, true, false, List, [], ◌∷◌, ◌++◌, length, get_or, take, set, refl, sym, ap, ap₂, subst, ◌∙◌, arith, add-one, add-zero, Option, Some, None, length-take, length-set}
-use Rattle.std.specs.Prelude.{if◌then◌else◌, nat_eq, nat_le, nat_lt, replicate, unwrap_or, not, ◌%◌, ◌&&◌, ◌||◌, IfSome}
+use Rattle.std.proofs.Common.{rules, ◌≡◌, ℕ, ◌+◌, ◌*◌, ◌<◌, ◌≤◌, zero-le, Bool, true, List, [], ◌∷◌, ◌++◌, length, get_or, take, refl, sym, ap, ap₂, ◌∙◌, arith, add-one, add-zero, Option, Some, None, length-take, length-append}
+use Rattle.std.specs.Prelude.{if◌then◌else◌, nat_lt, replicate, ◌&&◌, ◌||◌, IfSome}
 use Rattle.std.specs.List.{concat}
 use Rattle.std.proofs.lemmas.List.{take_all, take_more, set_at, length-take-le, length-replicate}
-use Rattle.std.proofs.lemmas.List.Elements.{All-take, All-set}
-use Rattle.std.proofs.lemmas.Bool.{and_parts, cases_lt, le-ltb}
+use Rattle.std.proofs.lemmas.Bool.{le-ltb}
 use Rattle.std.proofs.lemmas.Bool.Decides.{nat_tests}
 use Rattle.uda_mem.proofs.PutLaws.{put-nil}
 use Rattle.uda_packet.specs.declared.command.Op.TheVariants as op
@@ -15,16 +14,15 @@ use Rattle.uda_packet.specs.Opcode.{answered_opcode, blank_body}
 use Rattle.uda_disk.specs.Request as ask
 use Rattle.uda_disk.specs.Status.{SUCCESS, DRIVE_ERROR}
 use Rattle.uda_disk.specs.Answer.{status_of}
-use Rattle.uda_exec.proofs.Words.{put, Command, Op, Kind, End, EndBody, Transfer, transfer_of, changes_blocks, StoreState, KeepsAttributes, HasWholeBlocks, Mode, Refusal, Disk, Act, blocks_for, extent_of, lbn_of, UnitState, disk_of, blank_answer, block_count, transfer_buffer_length, buffer_length, blocks_asked, buffer_start, bytes_asked, changes_memory, refusal_status, first_failed_check, CheckResult, Rejected, Accepted, check_by, refusal_on, with_buffer_checks, check_with, extent_in, is_odd, is_missing, transfer_refusal, ChangesAt, asks_by, act_of, blocks_due, bytes_landing, blocks_stored, Progress, StopsAt, TransferOutcome, Done, Lost, IsWithinRange, blocks_moved, due, blocks_written, data_read, mode_after, bytes_on, answer_on, reply, plain_body, with_bytes_moved, body_for, end_for, is_accepted, transfer_status, transfer_bytes, is_lost, bytes_of, IsBodyOf, Answers, check_on, EndsTransfer, TakesEffectOn, ServesUnit}
-use Rattle.uda_disk.specs.declared.refusal.Refusal.TheVariants.{NotOnline, OddCount, BlockPastEnd, RangePastEnd, HardwareProtected}
+use Rattle.uda_exec.proofs.Words.{put, Command, Op, Kind, End, EndBody, Transfer, transfer_of, changes_blocks, StoreState, KeepsAttributes, HasWholeBlocks, Mode, Refusal, Disk, Act, blocks_for, extent_of, UnitState, disk_of, blank_answer, block_count, transfer_buffer_length, blocks_asked, bytes_asked, changes_memory, refusal_status, first_failed_check, Rejected, Accepted, check_by, with_buffer_checks, check_with, extent_in, transfer_refusal, ChangesAt, asks_by, act_of, blocks_due, bytes_landing, blocks_stored, Progress, StopsAt, TransferOutcome, Done, Lost, IsWithinRange, blocks_moved, due, blocks_written, data_read, mode_after, bytes_on, answer_on, reply, plain_body, with_bytes_moved, body_for, end_for, is_accepted, transfer_status, transfer_bytes, is_lost, bytes_of, IsBodyOf, Answers, check_on, EndsTransfer, TakesEffectOn, ServesUnit}
 use Rattle.uda_disk.specs.Units.{is_infallible}
 use Rattle.uda_exec.specs.Transfers.{never_fails_in}
 use Rattle.uda_exec.specs.Execution.{CallsStore}
 use Rattle.uda_exec.proofs.Calls.{go_none}
 use Rattle.uda_exec.proofs.Changes.{changes_nothing}
 use Rattle.uda_exec.proofs.Requests.{asks}
-use Rattle.uda_exec.proofs.Blocks.{AreBlocks, length-bytes_at, length-concat_blocks}
-use Rattle.uda_exec.proofs.Steps.{length-due_by, length-due_le, AreBlocks-due}
+use Rattle.uda_exec.proofs.Blocks.{AreBlocks, length-bytes_at, length-concat_blocks, length-concat_take, concat_push}
+use Rattle.uda_exec.proofs.Steps.{length-due_by, AreBlocks-due}
 use Rattle.uda_image.specs.Store.{is_sound}
 use Rattle.uda_image.proofs.SoundLaws.{sound_before, stays_sound}
 
@@ -39,99 +37,60 @@ bytes_of-with_bytes (body.Moved kind old) bytes = omega arith
 bytes_of-with_bytes _ bytes = zero-le
 
 -- the plain body is the command's, with a byte count of at most its own
-pub IsBodyOf-plain : (op : Op) (bytes : ℕ) → bytes ≤ bytes_asked op → IsBodyOf op (plain_body op bytes)
-IsBodyOf-plain op bytes h = record {
-  opcode = opcode-with_bytes (blank_body op) bytes;
-  within = omega (arith, bytes_of-with_bytes (blank_body op) bytes);
-}
-
 pub Answers-plain : (c : Command) (status bytes : ℕ) → bytes ≤ bytes_asked c.op
     → Answers c (reply c status (plain_body c.op bytes))
-Answers-plain c status bytes h = record { reference = refl; unit = refl; body = IsBodyOf-plain c.op bytes h }
+Answers-plain c status bytes h = record {
+  reference = refl;
+  unit = refl;
+  body = record {
+    opcode = opcode-with_bytes (blank_body c.op) bytes;
+    within = omega (arith, bytes_of-with_bytes (blank_body c.op) bytes);
+  };
+}
 
 -- a rejected command
 status-blank : (act : Act) (status : ℕ) → status_of (blank_answer act status) ≡ status
 status-blank (ask.Online protect) status = refl
-status-blank ask.Available status = refl
-status-blank ask.Status status = refl
-status-blank (ask.Read first bytes) status = refl
 status-blank _ status = refl
 
 pub end_of-blank : (c : Command) (memory : List ℕ) (act : Act) (status : ℕ) → act_of c.op memory ≡ Some act
     → end_for c (blank_answer act status) ≡ reply c status (plain_body c.op 0)
-end_of-blank c memory act status is = ap₂ (reply c) (status-blank act status)
-    ((asks c.op memory act is).blank status)
+end_of-blank c memory act status is = ap₂ (reply c) (status-blank act status) ((asks c.op memory act is).blank status)
 
 -- ---- a command that moves no blocks
 
 -- an action without a range returns by the mode, and writes nothing
-record Still (o : Op) (act : Act) : Type 0 where
+pub record Still (o : Op) (act : Act) : Type 0 where
   pub answers : (disk : Disk) → IsBodyOf o (body_for o (answer_on Done act disk))
   pub no_extent : extent_of act ≡ None
-  pub stores : (blocks : List (List ℕ)) → blocks_written act (due act blocks) ≡ []
+  pub stores : (blocks : List (List ℕ)) → blocks_written act blocks ≡ []
   pub brings : (blocks : List (List ℕ)) → data_read act (due act blocks) ≡ []
   pub hard_stays : (mode : Mode) → (mode_after act mode).hard ≡ mode.hard
 
 hard-online : (protect : Bool) (mode : Mode) → (mode_after (ask.Online protect) mode).hard ≡ mode.hard
-hard-online protect mode = elim mode.online as
-    (λ b. (if b then mode else record mode { online = true; soft = protect }).hard ≡ mode.hard)
-    [ true ↦ refl | _ ↦ refl ]
+hard-online protect mode = grind (arith, nat_tests)
 
 still_if : (o : Op) → transfer_of o ≡ None → IfSome (act_of o []) (Still o)
 still_if op.Controller none = tt
-still_if op.Status none = record {
-  answers = λ disk. record { opcode = refl; within = zero-le };
-  no_extent =
-      refl;
-  stores = λ blocks. refl;
-  brings = λ blocks. refl;
-  hard_stays = λ mode. refl;
-}
-still_if op.Available none = record {
-  answers = λ disk. record { opcode = refl; within = zero-le };
-  no_extent = refl;
-  stores = λ blocks. refl;
-  brings = λ blocks. refl;
-  hard_stays = λ mode. refl;
-}
-still_if (op.Online soft) none = record {
-  answers = λ disk. record { opcode = refl; within = zero-le };
-  no_extent = refl;
-  stores = λ blocks. refl;
-  brings = λ blocks. refl;
-  hard_stays = hard-online (unwrap_or soft false);
-}
-still_if _ none = absurd (cc)
+still_if (op.Online soft) none = search (rules, hard-online)
+still_if _ none = search rules
 
 -- its action doesn't depend on memory
 pub act_of-same : (o : Op) (memory : List ℕ) → transfer_of o ≡ None → act_of o memory ≡ act_of o []
 act_of-same o memory none = rw none refl
+
+pub still : (o : Op) (memory : List ℕ) (act : Act) → transfer_of o ≡ None → act_of o memory ≡ Some act → Still o act
+still o memory act none is =
+    let same = sym (act_of-same o memory none) ∙ is in rw same at (still_if o none)
 
 pub check_result-with_buffer_checks : (odd missing : Bool) (found : Option Refusal) (disk : Disk)
     → check_with odd missing (check_by found disk) ≡ check_by (with_buffer_checks odd missing found) disk
 check_result-with_buffer_checks odd missing None disk = refl
 check_result-with_buffer_checks odd missing (Some refusal) disk = refl
 
--- the checks of a command are those of its action, and those of its buffer
-pub check_on-by : (c : Command) (act : Act) (unit : UnitState) (memory : List ℕ) (address room : ℕ)
-    (found : Option Refusal) → buffer_start c.op ≡ address → buffer_length c.op ≡ room
-    → refusal_on (extent_of act) unit.store.size unit.mode ≡ found
-    → check_on c act unit memory ≡ check_by
-    (with_buffer_checks (is_odd address) (is_missing address room (length memory)) found) (disk_of unit)
-check_on-by c act unit memory address room found at has is =
-    let m = length memory in let disk = disk_of unit in
-    let b : CheckResult = check_by (refusal_on (extent_of act) unit.store.size unit.mode) disk in
-    ap (λ (a : ℕ). check_with (is_odd a) (is_missing a (buffer_length c.op) m) b) at
-    ∙ ap (λ (r : ℕ). check_with (is_odd address) (is_missing address r m) b) has
-    ∙ ap (λ (f : Option Refusal). check_with (is_odd address) (is_missing address room m) (check_by f disk)) is
-    ∙ check_result-with_buffer_checks _ _ found disk
-
 pub free-still : (c : Command) (act : Act) (unit : UnitState) (memory : List ℕ) → transfer_of c.op ≡ None
     → extent_of act ≡ None → check_on c act unit memory ≡ Accepted (disk_of unit)
-free-still c act unit memory none still =
-    let present : is_missing 0 0 (length memory) ≡ false = le-ltb (length memory) 0 zero-le in
-    check_on-by c act unit memory 0 0 None (rw none refl) (rw none refl) (rw still refl)
-    ∙ ap (λ (missing : Bool). check_by (with_buffer_checks false missing None) (disk_of unit)) present
+free-still c act unit memory none still = rw (none, still, le-ltb (length memory) 0 zero-le) refl
 
 -- the unit's mode is that of the command, and nothing else changed
 pub serves_mode : (c : Command) (act : Act) (unit : UnitState) (memory : List ℕ) → transfer_of c.op ≡ None
@@ -139,27 +98,17 @@ pub serves_mode : (c : Command) (act : Act) (unit : UnitState) (memory : List �
     → ServesUnit c act unit memory (end_for c (answer_on Done act (disk_of unit)))
     (record unit { mode = mode_after act unit.mode }) memory
 serves_mode c act unit memory none is =
-    let s : Still c.op act = subst (λ (a : Option Act). IfSome a (Still c.op))
-    (sym (act_of-same c.op memory none) ∙ is) (still_if c.op none) in
+    let s = still c.op memory act none is in
     let free = free-still c act unit memory none s.no_extent in
-    let no_first : lbn_of act ≡ 0 = rw s.no_extent refl in
+    let blocks = s.stores (due act unit.store.blocks) in
     let takes : TakesEffectOn c act (check_on c act unit memory) unit memory
     (end_for c (answer_on Done act (disk_of unit))) (record unit { mode = mode_after act unit.mode }) memory =
-    subst (λ (b : CheckResult). TakesEffectOn c act b unit memory
-    (end_for c (answer_on Done act (disk_of unit))) (record unit { mode = mode_after act unit.mode })
-    memory) (sym free) (record {
+    rw free (record {
       outcome = Done;
       fits = record { acting = λ lost. absurd (cc); count = tt };
       end_is = refl;
-      memory_is = sym (ap (put memory (buffer_start c.op)) (s.brings unit.store.blocks)
-          ∙ put-nil memory (buffer_start c.op));
-      disk_is = ap (λ (b : List (List ℕ)). record {
-        blocks = b;
-        size = unit.store.size;
-        mode = mode_after act unit.mode;
-      })
-          (sym (ap (put unit.store.blocks (lbn_of act)) (s.stores unit.store.blocks)
-          ∙ put-nil unit.store.blocks (lbn_of act)));
+      memory_is = rw (s.brings unit.store.blocks, put-nil) refl;
+      disk_is = rw (blocks, put-nil) refl;
       failures_are = sym (add-zero unit.store.failures);
       calls = rw none (go_none unit.store.failing_call);
       infallible = λ never. refl;
@@ -167,15 +116,9 @@ serves_mode c act unit memory none is =
     record {
       answers = record { reference = refl; unit = refl; body = s.answers (disk_of unit) };
       memory_stays = changes_nothing memory _ _;
-      attributes_stay = ap (λ (hard : Bool). record {
-        size = unit.store.size;
-        hard = hard;
-        faithful = unit.store.faithful;
-        never_fails = unit.store.never_fails;
-      }) (s.hard_stays unit.mode);
+      attributes_stay = rw (s.hard_stays unit.mode) refl;
       mode_stays = λ transfers. let not = rw none at transfers in absurd (cc);
-      unit_stays = λ idle. let not : is_accepted (Accepted (disk_of unit)) ≡ false = ap is_accepted (sym free) ∙ idle in
-          absurd (cc);
+      unit_stays = λ idle. let not = rw free at idle in absurd (cc);
       ends = λ transfers acting. let not = rw none at transfers in absurd (cc);
       takes_effect = λ trusted. takes;
       sound_before = λ sound. sound;
@@ -184,133 +127,55 @@ serves_mode c act unit memory none is =
 
 -- ---- a transfer
 
--- if no check fails, nothing is wrong
-pub record NoneFound (odd missing : Bool) (found : Option Refusal) : Type 0 where
-  pub even : odd ≡ false
-  pub present : missing ≡ false
-  pub nothing : found ≡ None
-
-pub none_found : (odd missing : Bool) (found : Option Refusal) → with_buffer_checks odd missing found ≡ None
-    → NoneFound odd missing found
-none_found odd missing (Some refusal) h = absurd (cc)
-none_found true missing None h = absurd (cc)
-none_found false true None h = absurd (cc)
-none_found false false None h = record { even = refl; present = refl; nothing = refl }
-
 -- the properties of a transfer that passes its checks
 pub record Passes (t : Transfer) (memory size : ℕ) : Type 0 where
   pub on_unit : t.lbn + block_count t ≤ size
   pub in_memory : t.buffer + transfer_buffer_length t ≤ memory
 
-pub in_range : (e : ask.Extent) (size : ℕ) (mode : Mode) → first_failed_check e size mode ≡ None
-    → e.lbn + blocks_for e.bytes ≤ size
-in_range e size mode h = grind (arith, nat_tests)
-
 pub passes_if : (t : Transfer) (memory size : ℕ) (mode : Mode) → transfer_refusal t memory size mode ≡ None
     → Passes t memory size
-passes_if t memory size mode h =
-    let none = none_found _ _ _ h in
-    let present : nat_lt memory (t.buffer + transfer_buffer_length t) ≡ false = none.present in
-    record { on_unit = in_range (extent_in t) size mode none.nothing; in_memory = grind (arith, nat_tests) }
+passes_if t memory size mode h = record { on_unit = grind (arith, nat_tests); in_memory = grind (arith, nat_tests) }
 
--- a transfer that changes blocks, and passes its checks, finds no hardware protection
-unprotected_by : (online even past over writes hard : Bool) (more : Option Refusal) → writes ≡ true
-    → (if not online then Some NotOnline else if not even then Some OddCount else if past then Some BlockPastEnd
-    else if over then Some RangePastEnd else if writes && hard then Some HardwareProtected else more) ≡ None
-    → hard ≡ false
-unprotected_by false even past over writes hard more changes none = absurd (cc)
-unprotected_by true false past over writes hard more changes none = absurd (cc)
-unprotected_by true true true over writes hard more changes none = absurd (cc)
-unprotected_by true true false true writes hard more changes none = absurd (cc)
-unprotected_by true true false false true true more changes none = absurd (cc)
-unprotected_by true true false false true false more changes none = refl
-unprotected_by true true false false false hard more changes none = absurd (cc)
-
-left_of : (a b : Bool) → a || b ≡ true → b ≡ false → a ≡ true
-left_of true b one other = refl
-left_of false b one other = absurd (cc)
-
--- so the store of an infallible unit doesn't fail in it
-never_fails_by : (kind_writes : Bool) (store : StoreState) (hard : Bool)
-    → store.never_fails.reads && (store.never_fails.writes || hard) ≡ true → (kind_writes ≡ true → hard ≡ false)
-    → (if kind_writes then store.never_fails.writes else store.never_fails.reads) ≡ true
-never_fails_by true store hard never open_to =
-    left_of store.never_fails.writes hard (and_parts store.never_fails.reads _ never).1 (open_to refl)
-never_fails_by false store hard never open_to = (and_parts store.never_fails.reads _ never).0
-
+-- the store of an infallible unit doesn't fail in a transfer that passes its checks
 never_fails_there : (t : Transfer) (memory : ℕ) (store : StoreState) (mode : Mode)
     → transfer_refusal t memory store.size mode ≡ None
     → store.never_fails.reads && (store.never_fails.writes || mode.hard) ≡ true → never_fails_in t.kind store ≡ true
-never_fails_there t memory store mode passed never =
-    let e = extent_in t in
-    never_fails_by (changes_blocks t.kind) store mode.hard never (λ changes.
-    unprotected_by mode.online (nat_eq (e.bytes % 2) 0) (nat_le store.size e.lbn)
-    (nat_lt store.size (e.lbn + blocks_for e.bytes)) e.writes mode.hard _ changes (none_found _ _ _ passed).nothing)
+never_fails_there t memory store mode passed never = grind (arith, nat_tests)
 
 -- the first k blocks and the content of block k
 pub moved-lost : (k : ℕ) (left : List ℕ) (blocks : List (List ℕ)) → k < length blocks
     → blocks_moved (Lost k left) blocks ≡ take k blocks ++ left ∷ []
 moved-lost k left blocks h =
-    let more : take (suc k) blocks ≡ take k blocks ++ get_or blocks k [] ∷ [] =
-    rw (← add-one) (take_more blocks k [] h) in
-    ap (λ (b : List (List ℕ)). set b k left) more ∙ set_at (take k blocks) (get_or blocks k []) [] left k
-    (length-take-le k blocks (omega arith))
-
--- blocks that were moved are whole
-AreBlocks-moved : (o : TransferOutcome) (n : ℕ) (bs : List (List ℕ)) → AreBlocks bs → IsWithinRange n o
-    → AreBlocks (blocks_moved o bs)
-AreBlocks-moved Done n bs h f = h
-AreBlocks-moved (Lost k left) n bs h f = All-set (λ block. length block ≡ 512) (take (suc k) bs) k left f.1
-    (All-take (λ block. length block ≡ 512) (suc k) bs h)
+    rw (← add-one, take_more blocks k [] h)
+    (set_at (take k blocks) (get_or blocks k []) [] left k (length-take-le k blocks (omega arith)))
 
 pub told_there : (o : TransferOutcome) (n : ℕ) (bs : List (List ℕ)) → AreBlocks bs → length bs ≡ blocks_for n
     → IsWithinRange (blocks_for n) o → transfer_bytes o n ≤ length (take n (concat (blocks_moved o bs)))
 told_there Done n bs h e f = omega (arith, length-concat_blocks bs h, length-take n (concat bs))
 told_there (Lost k left) n bs h e f =
-    let all = blocks_moved (Lost k left) bs in
-    omega (
-      arith,
-      f.0,
-      length-set (take (suc k) bs) k left,
-      length-take (suc k) bs,
-      length-concat_blocks all
-          (AreBlocks-moved (Lost k left) (blocks_for n) bs h f),
-      length-take n (concat all),
-    )
+    rw (moved-lost k left bs (omega (arith, f.0)), concat_push) (simp (length-take, length-append)
+    (omega (arith, f.0, length-concat_take bs k h (omega (arith, f.0)))))
 
 -- the action of a transfer, by its kind
-asks-transfer : (o : Op) (t : Transfer) (memory : List ℕ) → transfer_of o ≡ Some t → act_of o memory
-    ≡ Some (asks_by t.kind t memory)
-asks-transfer o t memory is = rw is refl
-
 module _ (t : Transfer) (memory : List ℕ) where
   pub extent-asks : (k : Kind) → extent_of (asks_by k t memory)
       ≡ Some (record { lbn = t.lbn; bytes = t.bytes; writes = changes_blocks k })
-  extent-asks kind.Access = refl
-  extent-asks kind.Erase = refl
-  extent-asks kind.Read = refl
-  extent-asks kind.Write = ap (λ (n : ℕ). Some (record { lbn = t.lbn; bytes = n; writes = true }))
-      (length-bytes_at memory t.buffer t.bytes)
+  extent-asks kind.Write = rw (length-bytes_at memory t.buffer t.bytes) refl
+  extent-asks _ = refl
 
   mode-asks : (k : Kind) (mode : Mode) → mode_after (asks_by k t memory) mode ≡ mode
   mode-asks kind.Access mode = refl
-  mode-asks kind.Erase mode = refl
-  mode-asks kind.Read mode = refl
-  mode-asks kind.Write mode = refl
+  mode-asks _ mode = refl
 
   blocks_written-asks : (k : Kind) (blocks : List (List ℕ)) → blocks_written (asks_by k t memory) blocks
       ≡ (if changes_blocks k then blocks else [])
   blocks_written-asks kind.Access blocks = refl
-  blocks_written-asks kind.Erase blocks = refl
-  blocks_written-asks kind.Read blocks = refl
-  blocks_written-asks kind.Write blocks = refl
+  blocks_written-asks _ blocks = refl
 
   data_read-asks : (k : Kind) (blocks : List (List ℕ)) → data_read (asks_by k t memory) blocks
       ≡ (if changes_memory k then take t.bytes (concat blocks) else [])
   data_read-asks kind.Access blocks = refl
-  data_read-asks kind.Erase blocks = refl
-  data_read-asks kind.Read blocks = refl
-  data_read-asks kind.Write blocks = refl
+  data_read-asks _ blocks = refl
 
   -- the end message of an accepted transfer whose blocks are whole
   pub end-asks : (c : Command) (o : TransferOutcome) (disk : Disk) (k : Kind)
@@ -318,38 +183,35 @@ module _ (t : Transfer) (memory : List ℕ) where
       ≡ block_count t → IsWithinRange (block_count t) o
       → reply c (transfer_status o) (plain_body c.op (transfer_bytes o t.bytes))
       ≡ end_for c (answer_on o (asks_by k t memory) disk)
-  end-asks c o disk kind.Access are whole f = refl
-  end-asks c o disk kind.Erase are whole f = refl
   end-asks c o disk kind.Read are whole f =
-      let there = told_there o t.bytes (due (ask.Read t.lbn t.bytes) disk.blocks) are whole f in
-      ap (λ (n : ℕ). reply c (transfer_status o) (plain_body c.op n))
-      (sym (length-take-le (transfer_bytes o t.bytes) (bytes_on o (ask.Read t.lbn t.bytes) disk) there))
-  end-asks c o disk kind.Write are whole f =
-      ap (λ (n : ℕ). reply c (transfer_status o) (plain_body c.op (transfer_bytes o n)))
-      (sym (length-bytes_at memory t.buffer t.bytes))
+      rw (length-take-le (transfer_bytes o t.bytes) (bytes_on o (ask.Read t.lbn t.bytes) disk)
+      (told_there o t.bytes (due (ask.Read t.lbn t.bytes) disk.blocks) are whole f)) refl
+  end-asks c o disk kind.Write are whole f = rw (length-bytes_at memory t.buffer t.bytes) refl
+  end-asks c o disk _ are whole f = refl
 
 module _ (c : Command) (t : Transfer) (unit : UnitState) (memory : List ℕ)
     (is : transfer_of c.op ≡ Some t) where
   abbrev act : Act
   act = asks_by t.kind t memory
 
+  pub asks_it : act_of c.op memory ≡ Some act
+  asks_it = rw is refl
+
   -- for each action
   asked : (e : End) (unit_after : UnitState) (memory_left : List ℕ)
       → ServesUnit c act unit memory e unit_after memory_left
       → (a : Act) → act_of c.op memory ≡ Some a → ServesUnit c a unit memory e unit_after memory_left
-  asked e unit_after memory_left s a other =
-      let one : Some act ≡ Some a = sym (asks-transfer c.op t memory is) ∙ other in
-      let same : act ≡ a = cc in
-      subst (λ (x : Act). ServesUnit c x unit memory e unit_after memory_left) same s
+  asked e unit_after memory_left s a other = let one = asks_it in let same : a ≡ act = cc in rw same s
 
   extent : extent_of act ≡ Some (extent_in t)
   extent = extent-asks t memory t.kind
 
   -- the result of its checks
-  barred : check_on c act unit memory ≡ check_by (transfer_refusal t (length memory) unit.store.size unit.mode)
+  pub check_on-transfer : check_on c act unit memory ≡ check_by
+      (transfer_refusal t (length memory) unit.store.size unit.mode)
       (disk_of unit)
-  barred = check_on-by c act unit memory t.buffer (transfer_buffer_length t)
-      (first_failed_check (extent_in t) unit.store.size unit.mode) (rw is refl) (rw is refl) (rw extent refl)
+  check_on-transfer = rw (is, extent) (check_result-with_buffer_checks _ _
+      (first_failed_check (extent_in t) unit.store.size unit.mode) (disk_of unit))
 
   -- a transfer that fails a check is rejected, and changes nothing
   pub serves_refused : (refusal : Refusal) → transfer_refusal t (length memory) unit.store.size unit.mode
@@ -357,16 +219,13 @@ module _ (c : Command) (t : Transfer) (unit : UnitState) (memory : List ℕ)
       → (a : Act) → act_of c.op memory ≡ Some a → ServesUnit c a unit memory
       (reply c (refusal_status refusal) (plain_body c.op 0)) unit memory
   serves_refused refusal h =
-      let b : check_on c act unit memory ≡ Rejected refusal = barred
-      ∙ ap (λ (f : Option Refusal). check_by f (disk_of unit)) h in
+      let b : check_on c act unit memory ≡ Rejected refusal = rw (check_on-transfer, h) refl in
       let e : End = reply c (refusal_status refusal) (plain_body c.op 0) in
       let takes : TakesEffectOn c act (check_on c act unit memory) unit memory e unit memory =
-      subst (λ (b : CheckResult). TakesEffectOn c act b unit memory e unit memory) (sym b)
-      (record {
+      rw b (record {
         outcome = Done;
         fits = record { acting = λ lost. absurd (cc); count = tt };
-        end_is = sym (end_of-blank c memory act (refusal_status refusal)
-            (asks-transfer c.op t memory is));
+        end_is = sym (end_of-blank c memory act (refusal_status refusal) asks_it);
         memory_is = refl;
         disk_is = refl;
         failures_are = sym (add-zero unit.store.failures);
@@ -379,79 +238,56 @@ module _ (c : Command) (t : Transfer) (unit : UnitState) (memory : List ℕ)
         attributes_stay = refl;
         mode_stays = λ transfers. refl;
         unit_stays = λ idle. refl;
-        ends = λ transfers acting. let not : is_accepted (Rejected refusal) ≡ true = sym (ap is_accepted b) ∙ acting in
-            absurd (cc);
+        ends = λ transfers acting. let not = rw b at acting in absurd (cc);
         takes_effect = λ trusted. takes;
         sound_before = λ sound. sound;
         takes_effect_if_sound = λ trusted. takes;
       })
 
-  -- for every store, it succeeds, or fails at a block of its range
-  pub ends_done : EndsTransfer c (reply c SUCCESS (plain_body c.op t.bytes))
-  ends_done = record { outcome = Done; count = tt; end_is = rw is refl }
+  module _ (passed : transfer_refusal t (length memory) unit.store.size unit.mode ≡ None) (new : StoreState)
+      (memory_left : List ℕ) (attributes : KeepsAttributes unit.store new)
+      (changes : ChangesAt memory t.buffer (if changes_memory t.kind then t.bytes else 0) memory_left)
+      (image : is_sound unit.store ≡ true → HasWholeBlocks unit.store.size unit.store.blocks) where
+    abbrev left_unit : UnitState
+    left_unit = record { store = new; mode = unit.mode }
 
-  pub ends_lost : (k : ℕ) → k < block_count t
-      → EndsTransfer c (reply c DRIVE_ERROR (plain_body c.op (512 * k)))
-  ends_lost k inside = record {
-    outcome = Lost k (replicate 512 0);
-    count = rw is (inside, length-replicate {A = ℕ} 512 0);
-    end_is = refl;
-  }
-
-  module _ (passed : transfer_refusal t (length memory) unit.store.size unit.mode ≡ None) where
     free : check_on c act unit memory ≡ Accepted (disk_of unit)
-    free = barred ∙ ap (λ (f : Option Refusal). check_by f (disk_of unit)) passed
+    free = rw (check_on-transfer, passed) refl
 
     -- a transfer of one block or more calls the store
     is_called : 0 < block_count t → nat_lt 0 (blocks_asked c.op) && is_accepted (check_on c act unit memory) ≡ true
-    is_called some = let calls : nat_lt 0 (block_count t) ≡ true = grind (arith, nat_tests) in
-        let count : blocks_asked c.op ≡ block_count t = rw is refl in
-        ap (λ (b : Bool). nat_lt 0 (blocks_asked c.op) && b) (ap is_accepted free)
-        ∙ ap (λ (n : ℕ). nat_lt 0 n && true) count ∙ ap (λ (b : Bool). b && true) calls
-
-    bounds : Passes t (length memory) unit.store.size
-    bounds = passes_if t (length memory) unit.store.size unit.mode passed
+    is_called some = let calls : nat_lt 0 (block_count t) ≡ true = grind (arith, nat_tests) in rw (free, is, calls) refl
 
     -- for every store
-    pub serves_moved : (new : StoreState) (memory_left : List ℕ) → KeepsAttributes unit.store new
-        → ChangesAt memory t.buffer (if changes_memory t.kind then t.bytes else 0) memory_left
-        → (status bytes : ℕ) → bytes ≤ t.bytes → EndsTransfer c (reply c status (plain_body c.op bytes))
+    serves_moved : (status bytes : ℕ) → bytes ≤ t.bytes → EndsTransfer c (reply c status (plain_body c.op bytes))
         → ((0 < block_count t → is_sound new ≡ true)
-        → TakesEffectOn c act (Accepted (disk_of unit)) unit memory (reply c status (plain_body c.op bytes))
-        (record { store = new; mode = unit.mode }) memory_left)
-        → (a : Act) → act_of c.op memory ≡ Some a → ServesUnit c a unit memory
-        (reply c status (plain_body c.op bytes)) (record { store = new; mode = unit.mode }) memory_left
-    serves_moved new memory_left attributes changes status bytes few ends takes =
-        let on_unit : TakesEffectOn c act (Accepted (disk_of unit)) unit memory
-        (reply c status (plain_body c.op bytes)) (record { store = new; mode = unit.mode }) memory_left
-        → TakesEffectOn c act (check_on c act unit memory) unit memory
-        (reply c status (plain_body c.op bytes)) (record { store = new; mode = unit.mode }) memory_left =
-        subst (λ (b : CheckResult). TakesEffectOn c act b unit memory
-        (reply c status (plain_body c.op bytes)) (record { store = new; mode = unit.mode }) memory_left)
-        (sym free) in
+        → TakesEffectOn c act (Accepted (disk_of unit)) unit memory (reply c status (plain_body c.op bytes)) left_unit
+        memory_left)
+        → (a : Act) → act_of c.op memory ≡ Some a
+        → ServesUnit c a unit memory (reply c status (plain_body c.op bytes)) left_unit memory_left
+    serves_moved status bytes few ends takes =
         asked _ _ _ (record {
           answers = Answers-plain c status bytes (rw is few);
           memory_stays = rw is changes;
           attributes_stay = rw (attributes.size_stays, attributes.faithful_stays, attributes.never_fails_stays) refl;
           mode_stays = λ transfers. refl;
-          unit_stays = λ idle. let none : is_accepted (Accepted (disk_of unit)) ≡ false = ap is_accepted (sym free) ∙ idle in
-              absurd (cc);
+          unit_stays = λ idle. let not = rw free at idle in absurd (cc);
           ends = λ transfers acting. ends;
-          takes_effect = λ trusted. on_unit (takes (λ some. stays_sound attributes (trusted (is_called some))));
+          takes_effect = λ trusted. rw free (takes (λ some. stays_sound attributes (trusted (is_called some))));
           sound_before = sound_before attributes;
-          takes_effect_if_sound = λ trusted. on_unit (takes (λ some. trusted (is_called some)));
+          takes_effect_if_sound = λ trusted. rw free (takes (λ some. trusted (is_called some)));
         })
 
-    module _ (image : 0 < block_count t → HasWholeBlocks unit.store.size unit.store.blocks) (new : StoreState)
-        (memory_left : List ℕ) (attributes : KeepsAttributes unit.store new) where
+    module _ (called : 0 < block_count t → is_sound new ≡ true) where
       abbrev due_now : List (List ℕ)
       due_now = blocks_due t unit.store.blocks memory
 
+      image_there : 0 < block_count t → HasWholeBlocks unit.store.size unit.store.blocks
+      image_there some = image (sound_before attributes (called some))
+
       whole : length due_now ≡ block_count t
-      whole = elim (cases_lt 0 (block_count t)) [
-        | inl some ↦ length-due_by t unit.store.blocks memory (rw (image some).counted bounds.on_unit) t.kind
-        | inr none ↦ let short = length-due_le t unit.store.blocks memory t.kind in omega arith
-      ]
+      whole = length-due_by t unit.store.blocks memory t.kind (λ reads some. rw (image_there some).counted
+          (passes_if t (length memory) unit.store.size unit.mode passed).on_unit)
 
       -- for every outcome: if the blocks and bytes are as it says, the transfer has its complete effect
       takes : (o : TransferOutcome) (front : List (List ℕ)) → blocks_moved o due_now ≡ front
@@ -462,11 +298,8 @@ module _ (c : Command) (t : Transfer) (unit : UnitState) (memory : List ℕ)
           → CallsStore o (block_count t) unit.store.failing_call new.failing_call
           → (is_infallible (Some (Some unit)) ≡ true → o ≡ Done)
           → TakesEffectOn c act (Accepted (disk_of unit)) unit memory
-          (reply c (transfer_status o) (plain_body c.op (transfer_bytes o t.bytes)))
-          (record { store = new; mode = unit.mode }) memory_left
+          (reply c (transfer_status o) (plain_body c.op (transfer_bytes o t.bytes))) left_unit memory_left
       takes o front all fits in_memory in_store failed calls infallible =
-          let make : List (List ℕ) → ℕ → Mode → Disk = λ b n m. record { blocks = b; size = n; mode = m } in
-          let first : lbn_of act ≡ t.lbn = rw extent refl in
           let bytes : bytes_on o act (disk_of unit) ≡ bytes_landing t front = data_read-asks t memory t.kind
           (blocks_moved o due_now) ∙ ap (bytes_landing t) all in
           let blocks : blocks_written act (blocks_moved o due_now) ≡ blocks_stored t front =
@@ -475,31 +308,39 @@ module _ (c : Command) (t : Transfer) (unit : UnitState) (memory : List ℕ)
             outcome = o;
             fits = record { acting = λ lost. refl; count = rw is fits };
             end_is = end-asks t memory c o (disk_of unit) t.kind
-                (AreBlocks-due t unit.store.blocks memory (λ some. (image some).whole)) whole fits;
-            memory_is = in_memory ∙ rw (is, bytes) refl;
-            disk_is = rw (first, blocks, mode-asks t memory t.kind unit.mode)
-                (ap₂ (λ b n. make b n unit.mode) in_store attributes.size_stays);
+                (AreBlocks-due t unit.store.blocks memory (λ some. (image_there some).whole)) whole fits;
+            memory_is = rw (is, bytes) in_memory;
+            disk_is = rw (extent, blocks, mode-asks t memory t.kind unit.mode, in_store, attributes.size_stays) refl;
             failures_are = failed;
             calls = rw is calls;
             infallible = infallible;
           }
 
-      pub takes_done : Progress t (block_count t) unit.store memory new memory_left
-          → TakesEffectOn c act (Accepted (disk_of unit)) unit memory (reply c SUCCESS (plain_body c.op t.bytes))
-          (record { store = new; mode = unit.mode }) memory_left
-      takes_done h =
-          let all : take (block_count t) due_now ≡ due_now = take_all _ _ (omega (arith, whole)) in
-          let stand = rw all at h.stand in
-          takes Done due_now refl tt stand.in_memory stand.in_store
-          (h.failures_stay ∙ sym (add-zero unit.store.failures)) h.calls (λ never. refl)
+    pub serves_done : ((0 < block_count t → is_sound new ≡ true)
+        → Progress t (block_count t) unit.store memory new memory_left)
+        → (a : Act) → act_of c.op memory ≡ Some a
+        → ServesUnit c a unit memory (reply c SUCCESS (plain_body c.op t.bytes)) left_unit memory_left
+    serves_done moves =
+        serves_moved SUCCESS t.bytes (omega arith) (record { outcome = Done; count = tt; end_is = rw is refl })
+        (λ called.
+        let all : take (block_count t) (due_now called) ≡ due_now called = take_all _ _ (omega (arith, whole called)) in
+        let stand = rw all at (moves called).stand in
+        takes called Done (due_now called) refl tt stand.in_memory stand.in_store
+        ((moves called).failures_stay ∙ sym (add-zero unit.store.failures)) (moves called).calls (λ never. refl))
 
-      pub takes_lost : (k : ℕ) → k < block_count t → (never_fails_in t.kind unit.store ≡ true → ⊥)
-          → StopsAt t k unit.store memory new memory_left
-          → TakesEffectOn c act (Accepted (disk_of unit)) unit memory
-          (reply c DRIVE_ERROR (plain_body c.op (512 * k)))
-          (record { store = new; mode = unit.mode }) memory_left
-      takes_lost k inside unsure h =
-          takes (Lost k h.left) (take k due_now ++ h.left ∷ [])
-          (moved-lost k h.left due_now (omega (arith, whole)))
-          (inside, h.whole) h.stand.in_memory h.stand.in_store h.counted h.calls
-          (λ never. absurd (unsure (never_fails_there t (length memory) unit.store unit.mode passed never)))
+    -- it may fail at a block of its range
+    pub serves_lost : (k : ℕ) → k < block_count t → (never_fails_in t.kind unit.store ≡ true → ⊥)
+        → ((0 < block_count t → is_sound new ≡ true) → StopsAt t k unit.store memory new memory_left)
+        → (a : Act) → act_of c.op memory ≡ Some a
+        → ServesUnit c a unit memory (reply c DRIVE_ERROR (plain_body c.op (512 * k))) left_unit memory_left
+    serves_lost k inside unsure stops =
+        serves_moved DRIVE_ERROR (512 * k) (omega (arith, inside)) (record {
+          outcome = Lost k (replicate 512 0);
+          count = rw is (inside, length-replicate {A = ℕ} 512 0);
+          end_is = refl;
+        }) (λ called.
+        let h = stops called in
+        takes called (Lost k h.left) (take k (due_now called) ++ h.left ∷ [])
+        (moved-lost k h.left (due_now called) (omega (arith, whole called))) (inside, h.whole) h.stand.in_memory
+        h.stand.in_store h.counted h.calls
+        (λ never. absurd (unsure (never_fails_there t (length memory) unit.store unit.mode passed never))))

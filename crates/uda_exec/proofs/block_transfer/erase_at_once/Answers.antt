@@ -1,27 +1,27 @@
-use Rattle.std.proofs.Common.{◌∙◌, ◌*◌, refl, arith}
+use Rattle.std.proofs.Common.{◌*◌, refl, arith}
 use Rattle.std.proofs.lemmas.List.{take-replicate}
 use Rattle.uda_exec.proofs.AtOnce.{erased_none, erased_more}
+use Rattle.uda_exec.proofs.Steps.{both_natures}
 use Rattle.uda_image.proofs.SoundLaws.{sound_before}
 use Rattle.uda_exec.proofs.block_transfer.erase_at_once.Goals as goal
 
 pub loop-done-init : goal.loop-done-init
 loop-done-init g c = record {
-  attributes = record { size_stays = refl; faithful_stays = refl; honest_before = λ honest. honest; never_fails_stays = refl };
+  attributes = record {
+    size_stays = refl;
+    faithful_stays = refl;
+    honest_before = λ honest. honest;
+    never_fails_stays = refl;
+  };
   within = omega arith;
   erased = λ sound. erased_none _ _;
 }
 
 pub loop-done-preserved : goal.loop-done-preserved
 loop-done-preserved g c =
-    let was = c.loop-done.invariant.attributes in let is = c.try_write_blocks.ensures.attributes in
+    let is = c.try_write_blocks.ensures.attributes in
     record {
-      attributes = record {
-        size_stays = is.size_stays ∙ was.size_stays;
-        faithful_stays = is.faithful_stays
-            ∙ was.faithful_stays;
-        honest_before = λ honest. was.honest_before (is.honest_before honest);
-        never_fails_stays = is.never_fails_stays ∙ was.never_fails_stays;
-      };
+      attributes = both_natures c.loop-done.invariant.attributes is;
       within = omega arith;
       erased = λ sound.
           let write = rw c.if-not-try_write_blocks.false at

@@ -27,7 +27,8 @@ returns-then-try_read_blocks-clause-moves g c called =
     let room = rw c.in-Read.is at c.requires.in_memory in
     let to = c.try_read_blocks.new.to in let size = c.try_read_blocks.ensures.long in
     let read = rw c.if-try_read_blocks.true at (c.try_read_blocks.ensures.reads_if_sound sound) in
-    reads_ahead _ _ _ _ (omega arith) (g.met.S.BlockStore.is_image_if_sound c.args.store.now (sound_before c.try_read_blocks.ensures.attributes sound))
+    reads_ahead _ _ _ _ (omega arith) (g.met.S.BlockStore.is_image_if_sound c.args.store.now
+    (sound_before c.try_read_blocks.ensures.attributes sound))
     c.requires.on_unit c.in-Read.is _ to _ read
     (put_mid-put c.args.memory.now c.args.t.buffer _ to (omega (arith, size)) (omega (arith, room)))
 

@@ -1,17 +1,8 @@
 use Rattle.std.proofs.Common.{◌∙◌, arith}
-use Rattle.uda_exec.proofs.Changes.{changes_again, length-changes}
+use Rattle.uda_exec.proofs.Changes.{changes_again}
 use Rattle.uda_exec.proofs.Steps.{progress_stops, way_next, way_on}
 use Rattle.uda_image.proofs.SoundLaws.{sound_before, stays_sound}
 use Rattle.uda_exec.proofs.block_transfer.move_blocks.Goals as goal
-
-pub loop-done-init : goal.loop-done-init
-loop-done-init g c =
-    let ahead = c.move_at_once-done.ensures in
-    record { within = ahead.within; attributes = ahead.attributes; changes = ahead.changes; moves = ahead.moves }
-
-pub move_block-requires-clause-in_memory : goal.move_block-requires-clause-in_memory
-move_block-requires-clause-in_memory g c =
-    let same = length-changes _ _ _ _ c.loop-done.invariant.changes in omega arith
 
 pub returns-in_default-clause-changes : goal.returns-in_default-clause-changes
 returns-in_default-clause-changes g c = changes_again _ _ _ _ _ c.loop-done.invariant.changes
@@ -22,7 +13,8 @@ returns-in_default-clause-moves_if_sound g c called =
     let sound = called (omega arith) in
     let way = c.loop-done.invariant in
     let before = sound_before c.move_block.ensures.attributes sound in
-    progress_stops _ _ _ _ _ _ (g.met.S.BlockStore.is_image_if_sound c.args.store.now (sound_before way.attributes before))
+    progress_stops _ _ _ _ _ _ (g.met.S.BlockStore.is_image_if_sound c.args.store.now
+    (sound_before way.attributes before))
     c.requires.on_unit
     c.requires.in_memory
     (rw c.block_count.ensures at c.loop-done-test.true) (way.moves (λ some. before)) _ _
@@ -44,7 +36,8 @@ loop-done-preserved-then-done-eq0 g c =
 
 pub loop-done-preserved : goal.loop-done-preserved
 loop-done-preserved g c =
-    way_next c.loop-done.invariant c.move_block.ensures.attributes (g.met.S.BlockStore.is_image_if_sound c.args.store.now)
+    way_next c.loop-done.invariant c.move_block.ensures.attributes
+    (g.met.S.BlockStore.is_image_if_sound c.args.store.now)
     c.requires.on_unit
     c.requires.in_memory (rw c.block_count.ensures at c.loop-done-test.true) _ c.move_block.ensures.changes
     c.in-Ok.ensures.moves

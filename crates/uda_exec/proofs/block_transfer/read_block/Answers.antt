@@ -1,24 +1,20 @@
-use Rattle.std.proofs.Common.{ℕ, ◌++◌, ◌-◌, List, length-append, replicate, ◌∙◌, sym, ap, arith}
+use Rattle.std.proofs.Common.{◌∙◌, sym, ap, arith}
 use Rattle.std.proofs.lemmas.Result.{err_from_is_err_and}
-use Rattle.std.proofs.lemmas.List.{length-replicate, take_all}
-use Rattle.uda_mem.specs.Put.{part, put}
-use Rattle.uda_mem.proofs.PutLaws.{length-part-le, put_mid-put}
-use Rattle.uda_exec.proofs.Blocks.{keeps_front}
+use Rattle.std.proofs.lemmas.List.{take_all}
+use Rattle.uda_mem.specs.Put.{put}
+use Rattle.uda_mem.proofs.PutLaws.{put_mid-put}
+use Rattle.uda_exec.proofs.Blocks.{length-bytes_at, put_back}
+use Rattle.uda_exec.specs.Commands.{bytes_at}
 use Rattle.uda_image.proofs.SoundLaws.{stays_sound}
 use Rattle.uda_exec.proofs.block_transfer.read_block.Goals as goal
 
 pub returns-in_err-read-clause-reads : goal.returns-in_err-read-clause-reads
 returns-in_err-read-clause-reads g c =
-    let front = part c.args.memory.now c.args.address c.args.bytes in
-    let rest : List ℕ = replicate (512 - c.args.bytes) 0 in
+    let memory = c.args.memory.now in
     record {
-      to = front ++ rest;
-      whole = length-append front rest ∙ omega (
-        arith,
-        length-part-le c.args.memory.now c.args.address c.args.bytes c.requires.in_memory,
-        length-replicate {A = ℕ} (512 - c.args.bytes) 0,
-      );
-      landed = keeps_front c.args.memory.now c.args.address c.args.bytes c.requires.in_memory;
+      to = bytes_at memory c.args.address 512;
+      whole = length-bytes_at memory c.args.address 512;
+      landed = sym (put_back memory c.args.address c.args.bytes c.requires.in_memory);
       reads = λ faithful. let exit = err_from_is_err_and c.from_residual.result c.from_residual.ensures.1 in
           rw exit.1 (c.in_err-read.ensures.reads faithful);
       reads_if_sound = λ sound. let exit = err_from_is_err_and c.from_residual.result c.from_residual.ensures.1 in

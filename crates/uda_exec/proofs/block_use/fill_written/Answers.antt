@@ -1,4 +1,4 @@
-use Rattle.std.proofs.Common.{refl, List, ℕ, ◌++◌, take, length, replicate, inl, inr, ◌∙◌, ap, arith}
+use Rattle.std.proofs.Common.{refl, length, inl, inr, ◌∙◌, arith}
 use Rattle.uda_exec.proofs.Written.{write_written, erase_written, none_written}
 use Rattle.uda_exec.proofs.block_use.fill_written.Goals as goal
 
@@ -8,9 +8,8 @@ returns-in-Write c =
     let room = rw c.in-Write.is at c.requires.in_memory in
     let from = rw c.unwrap-from.ensures at c.window.ensures.value in
     record {
-      bytes = c.put_padded.ensures ∙ ap (λ (b : List ℕ). take n (b ++ replicate n 0)) from
-          ∙ write_written c.args.t c.args.memory.now c.args.skip n c.requires.within c.in-Write.is room
-          c.min-start.result (omega (arith, c.min-start.ensures));
+      bytes = c.put_padded.ensures ∙ rw from (write_written c.args.t c.args.memory.now c.args.skip n c.requires.within
+          c.in-Write.is room c.min-start.result (omega (arith, c.min-start.ensures)));
     }
 
 pub returns-in-Access : goal.returns-in-Access

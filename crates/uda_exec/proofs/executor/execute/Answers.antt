@@ -1,62 +1,43 @@
-use Rattle.std.proofs.Common.{◌≡◌, ◌≤◌, false, true, [], Some, None, length, refl, sym, ◌∙◌, zero-le}
-use Rattle.std.specs.Prelude.{slice_get}
+use Rattle.std.proofs.Common.{Some, None, refl, sym, ◌∙◌}
 use Rattle.std.proofs.lemmas.Option.{slice_get-get_or, slice_get_past}
-use Rattle.uda_exec.proofs.Words.{is_controller, world_of}
-use Rattle.uda_exec.proofs.Transferred.{Answers-plain}
 use Rattle.uda_disk.proofs.Slots.{set-itself}
-use Rattle.uda_exec.proofs.Units.{idle-controller, idle-barred, executes_idle, executes_on, slot_in}
-use Rattle.uda_exec.proofs.Requests.{asks_some, act_from}
+use Rattle.uda_exec.proofs.Units.{executes_controller, executes_rejected, executes_on, slot_in}
+use Rattle.uda_disk.specs.declared.refusal.Refusal.TheVariants.{UnitUnknown, NoVolume}
+use Rattle.uda_exec.proofs.Requests.{asks_some}
 use Rattle.uda_exec.proofs.executor.execute.Goals as goal
 
 pub returns-then-is_controller-clause-executes : goal.returns-then-is_controller-clause-executes
 returns-then-is_controller-clause-executes g c =
-    let is : is_controller c.args.command.op ≡ true = sym c.is_controller.ensures ∙ c.if-is_controller.true in
+    let speaks = sym c.is_controller.ensures ∙ c.if-is_controller.true in
     rw (c.reply.ensures, c.plain_body.ensures)
-    (executes_idle c.args.command c.args.units.now c.args.memory.now _ (idle-controller c.args.command _ is)
-    (Answers-plain c.args.command 0 0 zero-le))
+    (executes_controller c.args.command c.args.units.now c.args.memory.now speaks)
 
 pub returns-then-unit-units-clause-executes : goal.returns-then-unit-units-clause-executes
 returns-then-unit-units-clause-executes g c =
-    let speaks : is_controller c.args.command.op ≡ false = sym c.is_controller.ensures
-    ∙ c.if-is_controller.false in
-    let past : length c.args.units.now ≤ c.args.command.unit =
-    rw c.from-unit.ensures at c.if-unit-units.true in
-    let asks = act_from _ (asks_some c.args.command.op c.args.memory.now speaks) in
-    rw c.refuse.ensures (executes_idle c.args.command c.args.units.now c.args.memory.now _
-    (idle-barred c.args.command (world_of c.args.units.now c.args.memory.now) asks.0 None _ asks.1
-    (slot_in c.args.units.now c.args.command.unit None (slice_get_past _ _ past)) (λ odd missing. refl))
-    (Answers-plain c.args.command _ 0 zero-le))
+    let speaks = sym c.is_controller.ensures ∙ c.if-is_controller.false in
+    let past = rw c.from-unit.ensures at c.if-unit-units.true in
+    let asks = asks_some c.args.command.op c.args.memory.now speaks in
+    rw c.refuse.ensures (executes_rejected c.args.command c.args.units.now c.args.memory.now asks.0 UnitUnknown asks.1
+    (rw (slot_in c.args.units.now c.args.command.unit None (slice_get_past _ _ past)) refl))
 
 pub returns-in-None-clause-executes : goal.returns-in-None-clause-executes
 returns-in-None-clause-executes g c =
-    let speaks : is_controller c.args.command.op ≡ false = sym c.is_controller.ensures
-    ∙ c.if-is_controller.false in
+    let speaks = sym c.is_controller.ensures ∙ c.if-is_controller.false in
     let here = slice_get-get_or c.args.units.now c.from-unit.result c.index-units-unit.result
     c.if-unit-units.false in
-    let empty : slice_get c.args.units.now c.args.command.unit ≡ Some None =
-    rw (c.in-None.is, c.from-unit.ensures) at here in
-    let asks = act_from _ (asks_some c.args.command.op c.args.memory.now speaks) in
+    let empty = rw (c.in-None.is, c.from-unit.ensures) at here in
+    let asks = asks_some c.args.command.op c.args.memory.now speaks in
     rw (c.refuse-in-None.ensures, set-itself _ _ _ here)
-    (executes_idle c.args.command c.args.units.now c.args.memory.now _
-    (idle-barred c.args.command (world_of c.args.units.now c.args.memory.now) asks.0 (Some None) _ asks.1
-    (slot_in c.args.units.now c.args.command.unit (Some None) empty) (λ odd missing. refl))
-    (Answers-plain c.args.command _ 0 zero-le))
-
-pub execute-requires : goal.execute-requires
-execute-requires g c = record {
-  memory = c.requires.memory;
-  unit = asks_some c.args.command.op []
-      (sym c.is_controller.ensures ∙ c.if-is_controller.false);
-}
+    (executes_rejected c.args.command c.args.units.now c.args.memory.now asks.0 NoVolume asks.1
+    (rw (slot_in c.args.units.now c.args.command.unit (Some None) empty) refl))
 
 pub returns-in-Some-clause-executes : goal.returns-in-Some-clause-executes
 returns-in-Some-clause-executes g c =
-    let speaks : is_controller c.args.command.op ≡ false = sym c.is_controller.ensures
-    ∙ c.if-is_controller.false in
+    let speaks = sym c.is_controller.ensures ∙ c.if-is_controller.false in
     let here = slice_get-get_or c.args.units.now c.from-unit.result c.index-units-unit.result
     c.if-unit-units.false in
     let unit = rw (c.in-Some.is, c.from-unit.ensures) at here in
-    let asks = act_from _ (asks_some c.args.command.op c.args.memory.now speaks) in
+    let asks = asks_some c.args.command.op c.args.memory.now speaks in
     rw c.from-unit.ensures (executes_on c.args.command asks.0 c.args.units.now c.args.memory.now _ _ _ _
     asks.1 unit (c.execute.ensures.serves asks.0 asks.1) c.execute.ensures.image_before
     c.execute.ensures.image_if_sound)

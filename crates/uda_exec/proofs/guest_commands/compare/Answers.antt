@@ -1,5 +1,4 @@
-use Rattle.std.proofs.Common.{◌≡◌, Some, None, refl}
-use Rattle.std.specs.Prelude.{slice_get}
+use Rattle.std.proofs.Common.{refl}
 use Rattle.std.proofs.lemmas.Option.{slice_get-get_or}
 use Rattle.std.proofs.lemmas.List.Elements.{All-set}
 use Rattle.uda_disk.specs.Units.{IsWellFormed, attributes_of}
@@ -11,8 +10,7 @@ pub returns-in-None-clause-slot : goal.returns-in-None-clause-slot
 returns-in-None-clause-slot g c =
     let here = slice_get-get_or c.args.units.now c.from-unit.result c.index-units-unit.result
     c.if-unit-units.false in
-    let empty : slice_get c.args.units.now c.args.command.unit ≡ Some None =
-    rw (c.in-None.is, c.from-unit.ensures) at here in
+    let empty = rw (c.in-None.is, c.from-unit.ensures) at here in
     rw (set-itself _ _ _ here, empty) (c.guest_reply-in-None.ensures, refl)
 
 pub returns-in-Some-clause-slot : goal.returns-in-Some-clause-slot

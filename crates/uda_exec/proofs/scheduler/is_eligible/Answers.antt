@@ -10,7 +10,8 @@ first = record { reference = 0; unit = 0; op = Status }
 
 pub loop-older-preserved : goal.loop-older-preserved
 loop-older-preserved c = passes_next _ c.args.place _ (get_or c.args.pending.now c.args.place first) first
-    c.loop-older-test.true (sym c.command_may_overtake.ensures ∙ c.if-not-command_may_overtake.false) c.loop-older.invariant
+    c.loop-older-test.true (sym c.command_may_overtake.ensures
+    ∙ c.if-not-command_may_overtake.false) c.loop-older.invariant
 
 pub returns : goal.returns
 returns c = (

@@ -1,7 +1,6 @@
 use Rattle.std.proofs.Common.{◌≡◌, Some, List, rules, arith}
 use Rattle.std.specs.Prelude.{slice_get}
 use Rattle.uda_exec.proofs.Words.{Command, IsEligible}
-use Rattle.uda_exec.proofs.Changes.{length-changes}
 use Rattle.uda_exec.proofs.Units.{faithful_stays, sure_stays}
 use Rattle.uda_exec.proofs.executor.Exec.execute_one_in.Goals as goal
 
@@ -14,9 +13,6 @@ invariant_of-self g c =
 
 pub returns-clause-well_formed : goal.returns-clause-well_formed
 returns-clause-well_formed g c = c.execute.ensures.well_formed c.self.invariant.1.0
-
-pub returns-clause-length : goal.returns-clause-length
-returns-clause-length g c = length-changes _ _ _ _ c.execute.ensures.executes.memory_stays
 
 pub returns-clause-faithful : goal.returns-clause-faithful
 returns-clause-faithful g c = rw (← c.self.view_is)

@@ -1,7 +1,8 @@
 -- The laws of copies that may reach past the end of memory.
 use Rattle.std.proofs.Common.{◌≡◌, ℕ, ◌+◌, ◌-◌, ◌<◌, ◌≤◌, inl, inr, min, List, ◌++◌, length, take, replicate, refl, sym, ap, ◌∙◌, arith, length-take}
 use borrow.Rule.Slice.PartMut.{put_mid}
-use Rattle.std.proofs.lemmas.List.{same_lists, get_or-take}
+use Rattle.std.proofs.lemmas.List.{append-nil, same_lists, get_or-take}
+use Rattle.std.specs.List.{slice_range}
 use Rattle.std.proofs.lemmas.Bool.{cases_lt}
 use Rattle.uda_mem.specs.Put.{put}
 use Rattle.uda_bus.specs.Copy.{padded}
@@ -56,3 +57,12 @@ padded_parts n m rest there source first last count all is copied zeros =
     ∙ sym (get_or-take n there k d (omega (arith, length-take m there)))) in
     let more : rest ≡ n - length there = omega (arith, ap length is) in
     rw (copied, zeros, is, front, more) refl
+
+-- all bytes are there
+pub padded_whole : (n : ℕ) (there source copied : List ℕ) → n ≤ length source → source ≡ there
+    → copied ≡ slice_range source 0 n → copied ≡ padded n there
+unfolding padded
+padded_whole n there source copied few is copy =
+    let none : n - length there ≡ 0 = omega (arith, ap length is, few) in
+    let all : n - 0 ≡ n = omega arith in
+    rw none (copy ∙ ap (λ k. take k source) all ∙ ap (take n) is ∙ sym (append-nil (take n there)))

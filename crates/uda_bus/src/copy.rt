@@ -9,11 +9,14 @@ pub(crate) fn copy_out(memory: &[u8], start: Option<u64>, to: &mut [u8]) -> bool
     ensures whole { IsTrue result ↔ (length to.old ≤ length (bytes_from memory.now start)) }
 {
     let there = bytes_there(memory, start);
-    let count = there.len().min(to.len());
-    let (first, rest) = to.split_at_mut(count);
-    first.copy_from_slice(&there[..count]);
+    if let Some(bytes) = there.get(..to.len()) {
+        to.copy_from_slice(bytes);
+        return true;
+    }
+    let (first, rest) = to.split_at_mut(there.len());
+    first.copy_from_slice(there);
     rest.fill(0);
-    rest.is_empty()
+    false
 }
 
 // Returns the bytes of memory from an index on.

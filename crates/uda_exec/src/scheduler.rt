@@ -10,7 +10,7 @@ ghost use Rattle.uda_exec.specs.Commands.{is_controller, is_transfer};
 use uda_packet::{Command, Op};
 
 /// The start of a transfer's range. Positions are ordered by unit, and within a unit by block.
-#[derive(Clone, Copy, Debug, PartialEq, Eq, PartialOrd, Ord)]
+#[derive(Clone, Copy, Debug, PartialEq, Eq)]
 pub struct Position {
     /// The unit number.
     pub unit: u16,
@@ -21,6 +21,11 @@ pub struct Position {
 impl Position {
     /// The first position: block 0 of unit 0.
     pub const START: Position = Position { unit: 0, lbn: 0 };
+
+    // Returns whether the position comes before another one.
+    fn comes_before(self, other: Position) -> bool {
+        self.unit < other.unit || (self.unit == other.unit && self.lbn < other.lbn)
+    }
 
     // Returns the position of a transfer, or None for any other command.
     fn of(command: Command) -> Option<Position> {
@@ -39,13 +44,24 @@ impl Position {
     }
 }
 
-// An eligible transfer. The least candidate is chosen: positions before the last one come last, and of equal
+// An eligible transfer. The first candidate is chosen: positions before the last one come last, and of equal
 // positions the oldest command comes first.
-#[derive(Clone, Copy, PartialEq, Eq, PartialOrd, Ord)]
+#[derive(Clone, Copy)]
 struct Candidate {
     is_behind: bool,
     position: Position,
     place: usize,
+}
+
+impl Candidate {
+    // Returns whether the candidate comes before an older one.
+    fn comes_before(self, older: Candidate) -> bool {
+        if self.is_behind == older.is_behind {
+            self.position.comes_before(older.position)
+        } else {
+            older.is_behind
+        }
+    }
 }
 
 // Returns whether the two commands are for one unit. Set Controller Characteristics commands count as
@@ -111,14 +127,14 @@ pub fn next_place(pending: &[Command], position: Position) -> Option<usize>
             return Some(place);
         };
         let candidate = Candidate {
-            is_behind: reached < position,
+            is_behind: reached.comes_before(position),
             position: reached,
             place,
         };
-        least = match least {
-            Some(other) if other <= candidate => Some(other),
-            _ => Some(candidate),
-        };
+        match least {
+            Some(other) if !candidate.comes_before(other) => {}
+            _ => least = Some(candidate),
+        }
     }
     Some(least?.place)
 }

@@ -40,7 +40,7 @@ impl Controller {
             return CallStatus::TooLarge;
         };
         self.port.set_drive(unit, Some(Drive { store, hard }));
-        self.called = true;
+        self.called = self.called.saturating_add(1);
         CallStatus::Done
     }
 

@@ -1,5 +1,5 @@
 //! The controller of a handle.
-ghost use Rattle.std.specs.Prelude.{◌≡◌, ◌||◌, true, false, Some, ◌≢◌, ◌≤◌, ◌/◌, ◌%◌, ℕ, [], length, slice_get, unwrap_or, IfSome, IfNone, IfOk, IfErr, IsTrue, ◌⊎◌};
+ghost use Rattle.std.specs.Prelude.{◌≡◌, ◌||◌, true, false, Some, ◌≢◌, ◌≤◌, ◌/◌, ◌%◌, ℕ, [], length, slice_get, unwrap_or, nat_lt, IfSome, IfNone, IfOk, IfErr, IsTrue, ◌⊎◌};
 ghost use Rattle.uda_image.specs.Limits.{store_limit};
 ghost use Rattle.uda_mem.specs.Slices.{IsMemory};
 ghost use Rattle.uda_c.specs.declared.call_status.CallStatus.TheVariants.{RanTurn, Done, NoMemory, BadLength, OtherKind, Stale};
@@ -47,8 +47,8 @@ use uda_saved::{STATE_LENGTH, SavedState};
 pub struct Controller {
     pub port: Port<UnitImage>,
     pub last: Option<Trace>,
-    // Whether a unit has an image that C reads and writes by calls of its own.
-    pub(crate) called: bool,
+    // How many units have an image that C reads and writes by calls of its own.
+    pub(crate) called: u8,
     // How many calls have changed it, modulo 2^64.
     pub(crate) count: u64,
     // The number that C gave it when it began the steps of a turn last.
@@ -59,6 +59,7 @@ pub struct Controller {
 }
 
 impl Model for Controller {
+    ghost use Rattle.std.specs.Prelude.{nat_lt};
     ghost use Rattle.uda_disk.specs.Units.{AllFaithful};
     ghost use Rattle.uda_c.specs.ControllerState.{ControllerState};
     ghost use Rattle.uda_c.specs.Fits.{FitsController};
@@ -68,7 +69,7 @@ impl Model for Controller {
     ghost view = { λ c. record {
       port = c.port;
       last = c.last;
-      called = c.called;
+      called = nat_lt 0 c.called;
       count = c.count;
       number = c.number;
     } };
@@ -95,7 +96,7 @@ impl Controller {
             Ok(port) => Ok(Controller {
                 port,
                 last: None,
-                called: false,
+                called: 0,
                 count: 0,
                 number: 0,
                 window: None,
@@ -139,7 +140,7 @@ impl Controller {
         ensures effect { UnlessCalled (self.old, memory.old) result (self.new, memory.new)
             ((result ≡ Done) × WritesSa self.old memory.old word self.new memory.new) }
     {
-        if !self.called {
+        if self.called == 0 {
             self.port.write_sa_in(word, memory);
             return CallStatus::Done;
         }
@@ -197,7 +198,7 @@ impl Controller {
         if let Some(drive) = self.port.set_drive(unit, None) {
             put_lent(drive.store, image);
         }
-        self.called = any_called(&self.port);
+        self.called = called_units(&self.port);
         CallStatus::Done
     }
 
@@ -403,10 +404,10 @@ impl Controller {
         ensures refused { self.now.called ≡ false
             → IfSome result (λ r. (IsMemory memory.now → ⊥) × (r ≡ memory_refusal memory.now)) }
     {
-        if self.called {
-            Some(CallStatus::OtherKind)
-        } else {
+        if self.called == 0 {
             refusal_of(memory)
+        } else {
+            Some(CallStatus::OtherKind)
         }
     }
 
@@ -648,7 +649,7 @@ impl Controller {
         ensures err { IfErr result (λ r. self.old.called ≡ false → ((r ≡ NoMemory) × (map_answer map.now ≡ Done))
             ⊎ ((r ≡ map_answer map.now) × (r ≢ Done))) }
     {
-        if self.called {
+        if self.called != 0 {
             return Err(CallStatus::OtherKind);
         }
         let bus = map.bus()?;
@@ -796,6 +797,16 @@ pub(crate) fn any_called(port: &Port<UnitImage>) -> bool
     ensures called { result ≡ any_called port.now.exec.units }
 {
     is_called_in(port, 0) || is_called_in(port, 1) || is_called_in(port, 2) || is_called_in(port, 3)
+}
+
+// Returns how many of the four units have an image that C reads and writes by calls of its own.
+fn called_units(port: &Port<UnitImage>) -> u8
+    ensures called { nat_lt 0 result ≡ any_called port.now.exec.units }
+{
+    u8::from(is_called_in(port, 0))
+        + u8::from(is_called_in(port, 1))
+        + u8::from(is_called_in(port, 2))
+        + u8::from(is_called_in(port, 3))
 }
 
 // Returns whether a unit's type is read-only in the port's profile.

@@ -134,6 +134,7 @@ impl Controller {
     }
 
     // Lends the bytes of a slot as those of blocks from the first of these on. If it fails, they remain in the slot.
+    #[tactic(auto, using(crate::proofs::Lending::bytes_taken))]
     fn lend_slot(&mut self, blocks: BlockRange, slot: &mut Slot) -> CallStatus
         ensures lends { LendsBlocks self.old (blocks.unit, blocks.first) slot.old.held result self.new }
         ensures taken { (result ≡ Done) × (slot.new ≡ emptied slot.old) ⊎ (result ≢ Done) × (slot.new ≡ slot.old) }

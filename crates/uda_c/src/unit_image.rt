@@ -106,13 +106,15 @@ impl UnitImage {
         ensures refused { IfErr result (λ status. status ≢ Done) }
         ensures taken { from.new ≡ (if is_ok result then None else from.old) }
     {
-        let UnitImage::Called(image) = self else {
-            return Err(CallStatus::OtherKind);
-        };
-        if image.lend(first, from) {
-            Ok(())
-        } else {
-            Err(CallStatus::BadLength)
+        match self {
+            UnitImage::Lent(_) => Err(CallStatus::OtherKind),
+            UnitImage::Called(image) => {
+                if image.lend(first, from) {
+                    Ok(())
+                } else {
+                    Err(CallStatus::BadLength)
+                }
+            }
         }
     }
 

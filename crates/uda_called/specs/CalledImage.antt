@@ -149,7 +149,7 @@ image_by size ready trace = record {
 }
 
 -- The ready blocks are on the unit, and the bytes that the program lends are those of the lent blocks. So if no block
--- is lent, the image has no bytes of the program.
+-- is lent, the image owns no bytes of the program.
 pub record IsKept (size : ℕ) (lent : List ℕ) (image : CalledBlocks) : Type 0 where
   pub size_is : size ≡ block_count_of image.bytes
   pub whole : length image.bytes ≡ 512 * size

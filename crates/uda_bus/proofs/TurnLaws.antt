@@ -11,17 +11,20 @@ use Rattle.uda_mem.specs.Put.{put, part}
 use Rattle.uda_mem.specs.Ranges.{EMPTY_RANGE, LiesIn, SameIn, carried}
 use Rattle.uda_mem.proofs.PutLaws.{length-put, put_mid-put, put-nil}
 use Rattle.uda_mem.proofs.RangeLaws.{length-carried}
-use Rattle.uda_port.specs.declared.memory_use.MemoryUse.{MemoryUse}
 use Rattle.uda_port.specs.declared.memory_use.Missing.{Missing}
 use Rattle.uda_port.specs.declared.turn_at.TurnTaken.{TurnTaken}
 use Rattle.uda_port.specs.Interrupt.{ring_before}
 use Rattle.uda_port.specs.Port.{PortState}
 use Rattle.uda_port.specs.Ring.{RingState, descriptor_address}
 use Rattle.uda_port.specs.Plan.{looks_at_commands, looks_at_responses}
-use Rattle.uda_port.specs.MemoryUse.{looked_at, command_range, response_range, descriptor_ranges, use_of, newest_count, writable_of, written_of, Agrees, AgreesInDescriptors, IsLocal, IsPlace}
+use Rattle.uda_port.specs.MemoryUse.{looked_at, command_range, response_range, descriptor_ranges, use_of, newest_count, writable_of, written_of, Agrees, AgreesInDescriptors, IsBody, IsLocal, IsPlace}
+use Rattle.uda_port.specs.Plan.{IsPlan}
+use Rattle.uda_port.specs.declared.memory_use.Body.{Body}
+use Rattle.uda_port.specs.declared.plan.Plan.{Plan}
+use Rattle.uda_port.specs.declared.turn_at.BusTurn.{BusTurn}
 use Rattle.uda_bus.specs.declared.map.BusMap.{BusMap}
 use Rattle.uda_bus.specs.Bytes.{shown, stored, AllLead}
-use Rattle.uda_bus.specs.Turns.{bus_memory, body_read, stored_ranges, TellsMissing, IsMissing, TurnsThroughMap}
+use Rattle.uda_bus.specs.Turns.{bus_memory, body_read, stored_ranges, TellsMissing, IsBegun, IsMissing, TurnsThroughMap}
 use Rattle.uda_bus.proofs.ShownLaws.{length-shown, part_shown}
 use Rattle.uda_bus.proofs.CarriedLaws.{carried_agrees, carried_same, all_same-sym, all_same-trans, all_kept}
 
@@ -195,16 +198,19 @@ module _ (port : PortState) (map : BusMap) (memory window : List ℕ) where
             (all_same-sym all bus w4 shared);
       }
 
-  module _ (place : ℕ) (w1 w2 : List ℕ) (uses : MemoryUse) (long : length w1 ≡ length window)
+  module _ (plan : Plan) (place : ℕ) (w1 w2 : List ℕ) (it : Body) (long : length w1 ≡ length window)
       (agrees : AgreesInDescriptors port w1 bus)
-      (same_body : (other : List ℕ) → AgreesInDescriptors port w1 other → (use_of port other place).body ≡ uses.body)
-      (same_reads : (other : List ℕ) → AgreesInDescriptors port w1 other
-      → (use_of port other place).reads_body ≡ uses.reads_body) where
+      (planned : (other : List ℕ) → AgreesInDescriptors port w1 other → IsPlan port other plan)
+      (same_body : (other : List ℕ) → AgreesInDescriptors port w1 other → IsBody it (use_of port other place)) where
+    -- the window is ready for the turn, after its body was read
+    abbrev Ready : List ℕ → Type 0
+    Ready w = IsPlan port w plan × Agrees port place w bus
+
     -- a body that is read
-    body_agrees : Reads map memory w1 uses.body w2 → Agrees port place w2 bus
+    body_agrees : Reads map memory w1 it.range w2 → Ready w2
     body_agrees reads =
         let all = descriptor_ranges port w1 in
-        let body = uses.body in
+        let body = it.range in
         let same : length w1 ≡ length bus = long ∙ sym length-bus in
         let read : w2 ≡ carried (body ∷ []) bus w1 =
         read_as map memory w1 w2 body (length window) long reads in
@@ -220,40 +226,44 @@ module _ (port : PortState) (map : BusMap) (memory window : List ℕ) where
         let here : SameIn w2 bus body =
         sym (All-head (SameIn bus w2) body []
         (subst (λ (w : List ℕ). All (SameIn bus w) (body ∷ [])) (sym read)
-        (carried_agrees (body ∷ []) bus w1 same))) in
-        record {
-          same_length = sym (kept ∙ same);
-          same_descriptors =
-              subst (All (SameIn w2 bus)) (sym (ranges_of_length port w1 w2 kept))
-              (all_same-sym all bus w2 after);
-          same_body = λ reads. subst (SameIn w2 bus) (sym (same_body w2 fits)) here;
-        }
+        (carried_agrees (body ∷ []) bus w1 same))) in (
+          planned w2 fits,
+          record {
+            same_length = sym (kept ∙ same);
+            same_descriptors =
+                subst (All (SameIn w2 bus)) (sym (ranges_of_length port w1 w2 kept))
+                (all_same-sym all bus w2 after);
+            same_body = λ reads. subst (SameIn w2 bus) (same_body w2 fits).range_is here;
+          },
+        )
 
     -- a body that isn't read
-    unread_agrees : uses.reads_body ≡ false → Agrees port place w1 bus
+    unread_agrees : it.is_read ≡ false → Ready w1
     unread_agrees unread =
         let itself : AgreesInDescriptors port w1 w1 =
-        record { same_length = refl; same_descriptors = λ k d less. refl } in
-        record {
-          same_length = agrees.same_length;
-          same_descriptors = agrees.same_descriptors;
-          same_body = λ reads. let no : false ≡ true = sym unread ∙ sym (same_reads w1 itself) ∙ reads in absurd (cc);
-        }
+        record { same_length = refl; same_descriptors = λ k d less. refl } in (
+          planned w1 itself,
+          record {
+            same_length = agrees.same_length;
+            same_descriptors = agrees.same_descriptors;
+            same_body = λ reads. let no : false ≡ true = sym unread ∙ (same_body w1 itself).read_is ∙ reads in absurd (cc);
+          },
+        )
 
-    pub used_agree : w2 ≡ body_read uses (bus_memory map (length w1) memory) w1 → Agrees port place w2 bus
-    used_agree read = by uses.reads_body refl
+    ready : w2 ≡ body_read it (bus_memory map (length w1) memory) w1 → Ready w2
+    ready read = by it.is_read refl
       where
-        by : (reads : Bool) → uses.reads_body ≡ reads → Agrees port place w2 bus
+        by : (reads : Bool) → it.is_read ≡ reads → Ready w2
         by true is = body_agrees (read ∙ ap (λ (reads : Bool).
-            if reads then carried (uses.body ∷ []) (bus_memory map (length w1) memory) w1 else w1) is)
+            if reads then carried (it.range ∷ []) (bus_memory map (length w1) memory) w1 else w1) is)
         by false is =
-            subst (λ (w : List ℕ). Agrees port place w bus)
+            subst Ready
             (sym (read ∙ ap (λ (reads : Bool).
-            if reads then carried (uses.body ∷ []) (bus_memory map (length w1) memory) w1 else w1) is)) (unread_agrees is)
+            if reads then carried (it.range ∷ []) (bus_memory map (length w1) memory) w1 else w1) is)) (unread_agrees is)
 
-    pub is_missing : (commands responses whole : Bool) → TellsMissing map memory (command_range port window) commands
+    is_missing : (commands responses whole : Bool) → TellsMissing map memory (command_range port window) commands
         → TellsMissing map memory (response_range port window) responses
-        → IsTrue whole ↔ AllLead map memory uses.body.at uses.body.bytes
+        → IsTrue whole ↔ AllLead map memory it.range.at it.range.bytes
         → IsMissing map (length window) (port, memory) place
         (record { commands = commands; responses = responses; body = not whole })
     is_missing commands responses whole told told' leads = record {
@@ -264,19 +274,37 @@ module _ (port : PortState) (map : BusMap) (memory window : List ℕ) where
           subst (λ (r : ByteRange). TellsMissing map memory r responses)
           (sym (looked_length (looks_at_responses port) window bus port.responses length-bus)) told';
       body =
-          subst (λ (r : ByteRange). TellsMissing map memory r (not whole)) (sym (same_body bus agrees))
-          (tells_missing map memory uses.body whole leads);
+          subst (λ (r : ByteRange). TellsMissing map memory r (not whole)) (same_body bus agrees).range_is
+          (tells_missing map memory it.range whole leads);
     }
 
-  pub turns_through_map : (place : ℕ) (missing : Missing) (w2 w3 : List ℕ) (taken : TurnTaken)
-      (after : PortState × List ℕ) → IsPlace port.exec.pending place
-      → IsMissing map (length window) (port, memory) place missing → Agrees port place w2 bus
-      → IsLocal missing place (port, w2) taken (after.0, w3)
-      → ((other : List ℕ) → Agrees port place w2 other
-      → taken.written ≡ written_of missing (port, other) place (newest_count after.0))
+    pub is_begun : (commands responses whole : Bool) → IsPlace port.exec.pending place
+        → w2 ≡ body_read it (bus_memory map (length w1) memory) w1
+        → TellsMissing map memory (command_range port window) commands
+        → TellsMissing map memory (response_range port window) responses
+        → IsTrue whole ↔ AllLead map memory it.range.at it.range.bytes
+        → IsBegun map (length window) (port, memory) (record {
+          plan = plan;
+          place = place;
+          missing = record { commands = commands; responses = responses; body = not whole };
+        }) w2
+    is_begun commands responses whole is_place read told told' leads = record {
+      is_place = is_place;
+      planned = (ready read).0;
+      agrees = (ready read).1;
+      is_missing = is_missing commands responses whole told told' leads;
+    }
+
+  pub turns_through_map : (it : BusTurn) (w2 w3 : List ℕ) (taken : TurnTaken) (after : PortState × List ℕ)
+      → IsBegun map (length window) (port, memory) it w2 → IsLocal it.missing it.place (port, w2) taken (after.0, w3)
+      → ((other : List ℕ) → Agrees port it.place w2 other
+      → taken.written ≡ written_of it.missing (port, other) it.place (newest_count after.0))
       → after.1 ≡ stored_ranges map taken.written w3 memory
       → TurnsThroughMap map (length window) (port, memory) taken.turn after
-  turns_through_map place missing w2 w3 taken after is_place is_missing agrees local is_written stores =
+  turns_through_map it w2 w3 taken after begun local is_written stores =
+      let place = it.place in
+      let missing = it.missing in
+      let agrees = begun.agrees in
       let written = taken.written in
       let bus_after = carried written w3 bus in
       let kept : length w3 ≡ length w2 = ap length local.only ∙ length-carried (writable_of missing port w2 place) w3 w2 in
@@ -287,8 +315,8 @@ module _ (port : PortState) (map : BusMap) (memory window : List ℕ) where
         missing = missing;
         written = written;
         bus_after = bus_after;
-        is_place = is_place;
-        is_missing = is_missing;
+        is_place = begun.is_place;
+        is_missing = begun.is_missing;
         is_written = is_written bus agrees;
         effect = local.elsewhere bus agrees;
         only = carried_same written w3 bus_after bus shared;

@@ -5,11 +5,14 @@ use Rattle.std.specs.Prelude.{◌≡◌, ◌↔◌, ℕ, Bool, false, List, [], 
 use Rattle.uda_mem.specs.declared.range.ByteRange.{ByteRange}
 use Rattle.uda_mem.specs.Put.{part}
 use Rattle.uda_mem.specs.Ranges.{carried}
-use Rattle.uda_port.specs.declared.memory_use.MemoryUse.{MemoryUse}
 use Rattle.uda_port.specs.declared.memory_use.Missing.{Missing}
 use Rattle.uda_port.specs.declared.turn.Turn.{Turn}
 use Rattle.uda_port.specs.Port.{PortState}
-use Rattle.uda_port.specs.MemoryUse.{command_range, response_range, use_of, newest_count, written_of, EffectWithout, IsPlace}
+use Rattle.uda_port.specs.MemoryUse.{command_range, response_range, use_of, newest_count, written_of}
+use Rattle.uda_port.specs.MemoryUse.{Agrees, EffectWithout, IsPlace}
+use Rattle.uda_port.specs.Plan.{IsPlan}
+use Rattle.uda_port.specs.declared.memory_use.Body.{Body}
+use Rattle.uda_port.specs.declared.turn_at.BusTurn.{BusTurn}
 use Rattle.uda_port.specs.StartupUse.{range_zeroed, range_written, WordEffect}
 use Rattle.uda_bus.specs.declared.map.BusMap.{BusMap}
 use Rattle.uda_bus.specs.Bytes.{shown, stored, AllLead}
@@ -25,8 +28,8 @@ stored_ranges map (r ∷ rest) bus memory =
     stored_ranges map rest bus (stored map memory r.at (part bus r.at r.bytes))
 
 -- a window after the body of a turn was read into it, if the turn reads it
-abbrev pub body_read : MemoryUse → List ℕ → List ℕ → List ℕ
-body_read uses bus window = if uses.reads_body then carried (uses.body ∷ []) bus window else window
+abbrev pub body_read : Body → List ℕ → List ℕ → List ℕ
+body_read body bus window = if body.is_read then carried (body.range ∷ []) bus window else window
 
 -- a flag is set exactly if an address of a range leads nowhere
 abbrev pub TellsMissing : BusMap → List ℕ → ByteRange → Bool → Type 0
@@ -39,6 +42,14 @@ pub record IsMissing (map : BusMap) (size : ℕ) (before : PortState × List ℕ
   pub responses : TellsMissing map before.1 (response_range before.0 (bus_memory map size before.1)) missing.responses
   pub body : TellsMissing map before.1 (use_of before.0 (bus_memory map size before.1) place).body
       missing.body
+
+-- A turn that is to be taken over a bus: its plan, an eligible command, and which addresses lead nowhere. The window has
+-- what the turn reads of the bus.
+pub record IsBegun (map : BusMap) (size : ℕ) (before : PortState × List ℕ) (bus : BusTurn) (window : List ℕ) : Type 0 where
+  pub is_place : IsPlace before.0.exec.pending bus.place
+  pub planned : IsPlan before.0 window bus.plan
+  pub agrees : Agrees before.0 bus.place window (bus_memory map size before.1)
+  pub is_missing : IsMissing map size before bus.place bus.missing
 
 -- One turn over memory through map registers is a turn on what the bus shows. If it executes a command, that is
 -- the pending command at this index. Then what the turn wrote is stored, in this order, and nothing else changes.

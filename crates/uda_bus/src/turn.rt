@@ -5,11 +5,11 @@ ghost use Rattle.uda_mem.specs.Put.{part};
 ghost use Rattle.uda_mem.specs.Ranges.{LiesIn, carried};
 ghost use Rattle.uda_mem.specs.Slices.{IsMemory};
 ghost use Rattle.uda_disk.specs.Units.{AreWellFormed};
-ghost use Rattle.uda_port.specs.MemoryUse.{command_range, response_range, Agrees, AgreesInDescriptors};
+ghost use Rattle.uda_port.specs.MemoryUse.{command_range, response_range, AgreesInDescriptors};
 ghost use Rattle.uda_port.specs.Port.{CreditsAgree};
 ghost use Rattle.uda_port.specs.Trace.{Traces, turn_of};
 ghost use Rattle.uda_bus.specs.Bytes.{stored, AllLead};
-ghost use Rattle.uda_bus.specs.Turns.{bus_memory, body_read, stored_ranges, IsMissing, TurnsThroughMap, WritesSaThroughMap};
+ghost use Rattle.uda_bus.specs.Turns.{bus_memory, body_read, stored_ranges, IsBegun, TurnsThroughMap, WritesSaThroughMap};
 ghost use Rattle.uda_bus.specs.Turns.{TellsMissing};
 
 use crate::map::BusMap;
@@ -17,7 +17,7 @@ use std::alloc::Global;
 use std::marker::Model;
 use uda_image::BlockStore;
 use uda_mem::{ByteRange, NoMemory};
-use uda_port::{BusTurn, MemoryUse, Missing, Port, Trace, Turn};
+use uda_port::{Body, BusTurn, Missing, Port, Trace, Turn};
 
 /// The memory of a bus as a port sees it for a turn: as many bytes as the bus has addresses.
 #[derive(Debug, Drop)]
@@ -113,9 +113,8 @@ impl BusMap<'_> {
         ensures window { length window.new ≡ length window.old }
         ensures length { length memory.new ≡ length memory.old }
     {
-        let place = port.next_place();
-        let missing = self.read_used(port, memory, place, window);
-        let taken = port.turn_at(window, Some(&BusTurn { place, missing }), trace);
+        let bus = self.read_used(port, memory, window);
+        let taken = port.turn_at(window, Some(&bus), trace);
         self.write_ranges(memory, &taken.written, window);
         taken.turn
     }
@@ -161,26 +160,24 @@ impl BusMap<'_> {
         self.write_range(memory, written, window);
     }
 
-    // Reads into a window what a turn reads from the bus. Returns which addresses lead nowhere.
-    fn read_used<S: BlockStore>(
-        &self,
-        port: &Port<S>,
-        memory: &[u8],
-        place: usize,
-        window: &mut [u8],
-    ) -> Missing
+    // Reads into a window what the next turn reads from the bus. Returns that turn.
+    fn read_used<S: BlockStore>(&self, port: &Port<S>, memory: &[u8], window: &mut [u8]) -> BusTurn
         requires window { IsMemory window.old }
-        ensures agrees { Agrees port.now place window.new
-            (bus_memory self.now (length window.old) memory.now) }
-        ensures missing { IsMissing self.now (length window.old) (port.now, memory.now) place result }
+        ensures begun { IsBegun self.now (length window.old) (port.now, memory.now) result window.new }
         ensures length { length window.new ≡ length window.old }
     {
         let missing = self.read_descriptors(port, memory, window);
-        let uses = port.memory_use(window, place);
-        let whole = self.read_body(memory, &uses, window);
-        Missing {
-            body: !whole,
-            ..missing
+        let plan = port.plan(window);
+        let place = port.next_place(plan);
+        let body = port.body(plan, window, place);
+        let whole = self.read_body(memory, body, window);
+        BusTurn {
+            plan,
+            place,
+            missing: Missing {
+                body: !whole,
+                ..missing
+            },
         }
     }
 
@@ -212,17 +209,17 @@ impl BusMap<'_> {
 
     // Reads the body of a turn into a window, if the turn reads it. Returns whether each of its addresses leads to
     // a byte of memory.
-    fn read_body(&self, memory: &[u8], uses: &MemoryUse, window: &mut [u8]) -> bool
-        requires within { LiesIn window.old uses.now.body }
+    fn read_body(&self, memory: &[u8], body: Body, window: &mut [u8]) -> bool
+        requires within { LiesIn window.old body.range }
         ensures window { window.new
-            ≡ body_read uses.now (bus_memory self.now (length window.old) memory.now) window.old }
+            ≡ body_read body (bus_memory self.now (length window.old) memory.now) window.old }
         ensures length { length window.new ≡ length window.old }
-        ensures whole { IsTrue result ↔ AllLead self.now memory.now uses.now.body.at uses.now.body.bytes }
+        ensures whole { IsTrue result ↔ AllLead self.now memory.now body.range.at body.range.bytes }
     {
-        if uses.reads_body {
-            self.read_range(memory, uses.body, window)
+        if body.is_read {
+            self.read_range(memory, body.range, window)
         } else {
-            self.leads(memory, uses.body.at, uses.body.bytes)
+            self.leads(memory, body.range.at, body.range.bytes)
         }
     }
 

@@ -11,3 +11,4 @@ pub mod ModeSteps
 pub mod FittingUnits
 pub mod SavedUnits
 pub mod MapTurns
+mod WrittenBlocks

@@ -9,6 +9,7 @@ ghost use Rattle.uda_c.specs.BlockRange.{access_numbered};
 ghost use Rattle.uda_c.specs.Steps.{MakesReady, MakesBlocksReady, without_lent, emptied, GetsWritten, CopiesWritten};
 ghost use Rattle.uda_called.specs.CalledImage.{bytes_in};
 ghost use Rattle.uda_port.specs.BlockUse.{blocks_of};
+ghost use Rattle.uda_port.specs.Plan.{IsPlan};
 ghost use Rattle.uda_c.specs.UnitImage.{status_of};
 
 use crate::block_range::{BlockRange, Prepared};
@@ -20,7 +21,7 @@ use crate::unit_image::UnitImage;
 use uda_called::BorrowedBytes;
 use uda_exec::BlockAccess;
 use uda_image::Drive;
-use uda_port::Missing;
+use uda_port::BusTurn;
 
 impl Controller {
     /// Attaches an image of `blocks` blocks that C reads and writes by calls of its own.
@@ -45,10 +46,12 @@ impl Controller {
         CallStatus::Done
     }
 
-    /// Returns the blocks that the turn with the command at `place` uses of an image that C reads and writes.
-    pub(crate) fn blocks_used(&self, memory: &[u8], place: usize, missing: Missing) -> BlockRange
+    /// Returns the blocks that this turn uses of an image that C reads and writes.
+    pub(crate) fn blocks_used(&self, memory: &[u8], bus: &BusTurn) -> BlockRange
         requires memory { IsMemory memory.now }
-        ensures blocks { result ≡ range_reported self.now (blocks_of missing self.now.port memory.now place) }
+        requires planned { IsPlan self.now.port memory.now bus.now.plan }
+        ensures blocks { result
+            ≡ range_reported self.now (blocks_of bus.now.missing self.now.port memory.now bus.now.place) }
     {
         if self.port.pending() == 0 {
             return BlockRange::NONE;
@@ -57,7 +60,7 @@ impl Controller {
         if !any_called(&self.port) {
             return BlockRange::NONE;
         }
-        match self.port.blocks_at(memory, place, missing) {
+        match self.port.blocks_at(memory, bus) {
             Some(used) if self.is_called(usize::from(used.unit)) => BlockRange::of(used),
             _ => BlockRange::NONE,
         }
@@ -162,11 +165,15 @@ impl Controller {
         requires memory { IsMemory memory.now }
         ensures copies { CopiesWritten self.now memory.now (turn.now, skip) result (to.old, to.new) }
     {
-        let place = self.place_of(turn.place);
-        if self
-            .port
-            .copy_written(memory, place, turn.missing(), skip, to)
-        {
+        let plan = self.port.plan(memory);
+        let place = self.place_of(plan, turn.place);
+        let missing = turn.missing();
+        let bus = BusTurn {
+            plan,
+            place,
+            missing,
+        };
+        if self.port.copy_written(memory, &bus, skip, to) {
             CallStatus::Done
         } else {
             CallStatus::BadLength

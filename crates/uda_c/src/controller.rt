@@ -39,7 +39,7 @@ use uda_exec::Exec;
 use uda_image::{Drive, STORE_LIMIT};
 use uda_mem::ByteRange;
 use uda_packet::DriveType;
-use uda_port::{BusTurn, Port, Profile, Trace, Turn};
+use uda_port::{BusTurn, Plan, Port, Profile, Trace, Turn};
 use uda_saved::{STATE_LENGTH, SavedState};
 
 /// A port over the images that C has lent, and the record of its last turn.
@@ -481,14 +481,20 @@ impl Controller {
         requires memory { IsMemory memory.now }
         ensures filled { IsFilled self.now memory.now turn.old turn.new }
     {
-        let place = self.port.next_place();
+        let plan = self.port.plan(memory);
+        let place = self.port.next_place(plan);
         let missing = turn.missing_before_body();
         turn.step = Step::Filled.code();
         turn.place = place as u32;
-        let uses = self.port.memory_use(memory, place);
-        turn.body = uses.body;
-        turn.reads_body = u32::from(uses.reads_body);
-        turn.blocks = self.blocks_used(memory, place, missing);
+        let body = self.port.body(plan, memory, place);
+        turn.body = body.range;
+        turn.reads_body = u32::from(body.is_read);
+        let bus = BusTurn {
+            plan,
+            place,
+            missing,
+        };
+        turn.blocks = self.blocks_used(memory, &bus);
     }
 
     /// Returns the status of a step that is refused after this one, or None if it may be taken.
@@ -550,18 +556,23 @@ impl Controller {
         requires memory { IsMemory memory.old }
         ensures { TakesTurnAt (self.old, memory.old) turn.old result turn.new (self.new, memory.new) }
     {
-        let place = self.place_of(turn.place);
+        let plan = self.port.plan(memory);
+        let place = self.place_of(plan, turn.place);
         let missing = turn.missing();
         let trace = self.last.get_or_insert(Trace::Idle);
-        let bus = BusTurn { place, missing };
+        let bus = BusTurn {
+            plan,
+            place,
+            missing,
+        };
         let taken = self.port.turn_at(memory, Some(&bus), trace);
         let written = taken.written;
         turn.written = written;
         CallStatus::RanTurn(taken.turn)
     }
 
-    // Returns the index of the command that C asks for, if it is eligible, or else the port's own choice.
-    pub(crate) fn place_of(&self, asked: u32) -> usize
+    // Returns the index of the command that C asks for, if it is eligible, or else the port's own choice for this plan.
+    pub(crate) fn place_of(&self, plan: Plan, asked: u32) -> usize
         ensures place { IsPlace self.now.port.exec.pending result }
         ensures asked { IsPlace self.now.port.exec.pending asked → result ≡ asked }
     {
@@ -569,7 +580,7 @@ impl Controller {
         if self.port.is_place(asked) {
             asked
         } else {
-            self.port.next_place()
+            self.port.next_place(plan)
         }
     }
 

@@ -40,13 +40,12 @@ use Rattle.uda_port.specs.declared.profile.Profile.{Profile}
 use Rattle.uda_port.specs.declared.profile.Profile.TheVariants.{Strict, Compatible}
 use Rattle.uda_port.specs.declared.turn.Turn.{Turn}
 use Rattle.uda_port.specs.declared.turn.Turn.TheVariants as did
-use Rattle.uda_port.specs.declared.memory_use.MemoryUse.{MemoryUse}
 use Rattle.uda_port.specs.declared.memory_use.Missing.{Missing}
 use Rattle.uda_port.specs.declared.turn_at.Fate.{Fate}
 use Rattle.uda_port.specs.declared.turn_at.Fate.TheVariants.{Usual, FailsInFetch, FailsLater, WithoutBuffer}
 use Rattle.uda_port.specs.Ring.{RingState, descriptor_address, descriptor_at, next_descriptor, memory_returned, returned_word}
 use Rattle.uda_port.specs.Interrupt.{ring_before, indicator_at, any_flagged, any_owned, memory_with_indicator, IsBelow, word_below, is_ring_transition}
-use Rattle.uda_port.specs.Packet.{HasText, HasPacket, IsPacketAt, DeclaresRoom, HasRoom, packet_put, text_address}
+use Rattle.uda_port.specs.Packet.{HasText, HasPacket, IsPacketAt, HasRoom, packet_put, text_address}
 use Rattle.uda_port.specs.Report.{end_text, next_text}
 use Rattle.uda_port.specs.Ring.{is_owned}
 use Rattle.uda_port.specs.Guest.{attention_set}
@@ -60,7 +59,7 @@ use Rattle.uda_port.specs.declared.plan.Plan.TheVariants.{AtRest, NoCommandRing,
 use Rattle.uda_port.specs.Plan.{plan_message, plan_later, plan_found, plan_running, plan_in, plan_of, next_size, awaits_delivery, looks_in, looks_at_commands, looks_at_responses, is_execution}
 use Rattle.uda_port.specs.Plan.{Step, TurnIs, TurnCase, Rests, CommandRingLost, Unreadable, Exceeds, BadConnection, Fetches, Executes, DeliversEnd, Notifies, Waits, ResponseRingLost, NoRoom}
 use Rattle.uda_port.specs.Turn.{Unchanged, ExecutesFor, TurnEffect, TakesPacket, NothingToFetch, NothingToDeliver, ExecutesOne, may_fetch, fetching_of, port_turn_on, port_not_polling, port_with_message}
-use Rattle.uda_port.specs.MemoryUse.{looked_at, descriptor_ranges, writable_of, first_of, written_after, newest_count, packet_range, indicator_range, returned_range, NONE_WRITTEN, has_text, has_room, written_by_fetch, fetch_use, looked_up, command_use, written_by_delivery, delivery_use, use_by, use_of, fate_at, fate_in, fate_of, CanFail, EffectBy, EffectWithout, written_by_fate, written_of, Agrees, AgreesInDescriptors, IsLocal, HasValidRings}
+use Rattle.uda_port.specs.MemoryUse.{looked_at, descriptor_ranges, first_of, written_after, newest_count, packet_range, indicator_range, returned_range, NONE_WRITTEN, has_text, has_room, written_by_fetch, fetch_use, looked_up, command_use, written_by_delivery, delivery_use, use_by, use_of, fate_at, fate_in, fate_of, CanFail, EffectBy, EffectWithout, written_by_fate, written_of, Agrees, AgreesInDescriptors, IsLocal, HasValidRings}
 use Rattle.uda_port.proofs.PlanLaws.{plan_rests, plan_outside, plan_fetches, plan_executes, plan_lost, plan_delivers, IsQuiet, NoneWaits, Waiting, plan_quiet, some_executed, case_of, executed_case, case_at, turns_at}
 use Rattle.uda_port.proofs.PortSteps.{reads_no_ring, reads_no_packet, writes_no_packet}
 use Rattle.uda_port.proofs.RingLaws.{takes_first}
@@ -987,6 +986,11 @@ module _ (port : PortState) (memory other : List ℕ) (j : ℕ) (s : SameDescrip
       ∙ put_there (range_at place n) (has_room port.profile memory place n) at
   written_by_plan _ at h = refl
 
+pub plan_agrees : (port : PortState) (memory other : List ℕ) → AgreesInDescriptors port memory other
+    → plan_of port other ≡ plan_of port memory
+plan_agrees port memory other agrees =
+    plan_there port memory other (same_descriptors port memory other agrees.same_length agrees.same_descriptors)
+
 pub body_there : (port : PortState) (memory other : List ℕ) (j : ℕ) → AgreesInDescriptors port memory other
     → (use_of port other j).body ≡ (use_of port memory j).body
 body_there port memory other j agrees =
@@ -1122,36 +1126,35 @@ delivery_lies port memory text indicator short room below within size told retur
     (lies_indicator indicator port.responses.base memory below (omega arith)))
     (subst (LiesIn memory) (sym is_returned) (omega arith))
 
-pub delivery_none : (port : PortState) (memory : List ℕ) (text body : ByteRange)
-    → body ≡ packet_range memory text.at text.bytes
-    → (HasRoom port.profile memory text.at text.bytes → ⊥)
-    → record { body = body; reads_body = true; written = NONE_WRITTEN } ≡ delivery_use port memory text
-delivery_none port memory text body is never =
-    rw (is, not_room port.profile memory text.at text.bytes never) refl
+pub fetch_lies : (port : PortState) (memory : List ℕ) (indicator : Option ℕ) → IsBelow indicator port.commands.base
+    → descriptor_address port.commands + 4 ≤ length memory → (told returned : ByteRange)
+    → told ≡ indicator_range indicator → returned ≡ returned_range port.commands
+    → All (LiesIn memory) (told ∷ returned ∷ EMPTY_RANGE ∷ EMPTY_RANGE ∷ [])
+fetch_lies port memory indicator below within told returned is_told is_returned =
+    all_four (LiesIn memory) told returned EMPTY_RANGE EMPTY_RANGE
+    (subst (LiesIn memory) (sym is_told) (lies_indicator indicator port.commands.base memory below (omega arith)))
+    (subst (LiesIn memory) (sym is_returned) (omega arith)) zero-le zero-le
 
-pub delivery_is : (port : PortState) (memory : List ℕ) (text body : ByteRange) (size : ℕ)
-    (told returned : ByteRange) → size ≡ text.bytes → body ≡ packet_range memory text.at text.bytes
-    → told ≡ indicator_range (response_indicator port memory) → returned ≡ returned_range port.responses
-    → HasRoom port.profile memory text.at text.bytes
-    → record {
-      body = body;
-      reads_body = true;
-      written = range_at text.at size ∷ range_at (text.at - 4) 4 ∷ told ∷ returned ∷ [];
-    } ≡ delivery_use port memory text
-delivery_is port memory text body size told returned is_size is_body is_told is_returned room =
-    rw (is_size, is_body, is_told, is_returned, room_true port.profile memory text.at text.bytes room) refl
+pub delivery_none : (port : PortState) (memory : List ℕ) (text : ByteRange)
+    → (HasRoom port.profile memory text.at text.bytes → ⊥) → NONE_WRITTEN ≡ (delivery_use port memory text).written
+delivery_none port memory text never = rw (not_room port.profile memory text.at text.bytes never) refl
 
-pub fetch_is : (port : PortState) (memory : List ℕ) (d : Descriptor) (at : ℕ) (body : ByteRange)
-    (readable : Bool) (written : List ByteRange) → at ≡ text_address port.profile d
-    → body ≡ packet_range memory at 48 → written ≡ written_by_fetch port memory readable
-    → (readable ≡ true → HasText memory at 48) → (HasText memory at 48 → readable ≡ true)
-    → record { body = body; reads_body = true; written = written }
-    ≡ fetch_use port memory (text_address port.profile d)
-fetch_is port memory d at body readable written is_at is_body is_written has is =
-    let make : ByteRange → List ByteRange → MemoryUse =
-    λ b w. record { body = b; reads_body = true; written = w } in
-    let text = text_iff memory at 48 readable has is in
-    ap₂ make is_body (is_written ∙ ap (written_by_fetch port memory) text) ∙ ap (fetch_use port memory) is_at
+pub delivery_is : (port : PortState) (memory : List ℕ) (text : ByteRange) (size : ℕ) (told returned : ByteRange)
+    → size ≡ text.bytes → told ≡ indicator_range (response_indicator port memory)
+    → returned ≡ returned_range port.responses → HasRoom port.profile memory text.at text.bytes
+    → range_at text.at size ∷ range_at (text.at - 4) 4 ∷ told ∷ returned ∷ [] ≡ (delivery_use port memory text).written
+delivery_is port memory text size told returned is_size is_told is_returned room =
+    rw (is_size, is_told, is_returned, room_true port.profile memory text.at text.bytes room) refl
+
+pub fetch_none : (port : PortState) (memory : List ℕ) (at : ℕ) → (HasText memory at 48 → ⊥)
+    → NONE_WRITTEN ≡ (fetch_use port memory at).written
+fetch_none port memory at never = rw (not_text memory at 48 never) refl
+
+pub fetch_is : (port : PortState) (memory : List ℕ) (at : ℕ) (told returned : ByteRange)
+    → told ≡ indicator_range (command_indicator port memory) → returned ≡ returned_range port.commands
+    → HasText memory at 48 → told ∷ returned ∷ EMPTY_RANGE ∷ EMPTY_RANGE ∷ [] ≡ (fetch_use port memory at).written
+fetch_is port memory at told returned is_told is_returned has =
+    rw (is_told, is_returned, text_true memory at 48 has) refl
 
 -- ---- fates
 

@@ -10,7 +10,7 @@ use Rattle.uda_packet.specs.declared.command.Command.{Command}
 use Rattle.uda_exec.specs.declared.buffer_use.BufferUse.{BufferUse}
 use Rattle.uda_exec.specs.BufferUse.{buffer_use_at, bytes_moved}
 use Rattle.uda_exec.specs.Order.{IsEligible}
-use Rattle.uda_port.specs.declared.memory_use.MemoryUse.{MemoryUse}
+use Rattle.uda_port.specs.declared.memory_use.Body.{Body}
 use Rattle.uda_port.specs.declared.memory_use.Missing.{Missing}
 use Rattle.uda_port.specs.declared.turn_at.TurnTaken.{TurnTaken}
 use Rattle.uda_port.specs.declared.turn_at.Fate.{Fate}
@@ -71,6 +71,18 @@ abbrev pub NONE_WRITTEN : List ByteRange
 NONE_WRITTEN = EMPTY_RANGE ∷ EMPTY_RANGE ∷ EMPTY_RANGE ∷ EMPTY_RANGE ∷ []
 
 -- ---- what the next turn uses
+
+-- What a turn uses of memory besides the descriptors: the packet or the buffer, whether it reads that, and what it may
+-- write, in this order.
+pub record MemoryUse : Type 0 where
+  pub body : ByteRange
+  pub reads_body : Bool
+  pub written : List ByteRange
+
+-- the body of such a use
+pub record IsBody (body : Body) (uses : MemoryUse) : Type 0 where
+  pub range_is : body.range ≡ uses.body
+  pub read_is : body.is_read ≡ uses.reads_body
 
 -- nothing but the descriptors
 abbrev pub NO_USE : MemoryUse

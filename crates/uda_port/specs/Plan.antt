@@ -92,6 +92,11 @@ abbrev pub HasShortText : Plan → Type 0
 HasShortText (ToDeliver d n) = n ≤ 48
 HasShortText _ = Unit {0}
 
+-- the plan of the next turn of a port in this memory
+pub record IsPlan (port : PortState) (memory : List ℕ) (plan : Plan) : Type 0 where
+  pub plan_is : plan ≡ plan_of port memory
+  pub short : HasShortText plan
+
 -- whether a plan is to execute a command
 abbrev pub is_execution : Plan → Bool
 is_execution ToExecute = true

@@ -4,61 +4,68 @@
 ghost use Rattle.std.specs.Prelude.{◌≡◌, ◌↔◌, ◌+◌, ◌*◌, ◌≤◌, List, ℕ, IsTrue, Option, length, option_map, IfSome, if◌then◌else◌};
 ghost use Rattle.uda_mem.specs.Put.{part};
 ghost use Rattle.uda_mem.specs.Slices.{IsMemory};
+ghost use Rattle.uda_port.specs.MemoryUse.{AgreesInDescriptors};
+ghost use Rattle.uda_port.specs.Plan.{IsPlan};
 ghost use Rattle.uda_port.specs.BlockUse.{memory_by, memory_executed, memory_for, blocks_of, block_bytes_of};
 
-use crate::memory_use::Missing;
 use crate::plan::Plan;
 use crate::port::Port;
-use crate::turn_at::Fate;
+use crate::turn_at::{BusTurn, Fate};
 use uda_exec::BlockUse;
 use uda_image::BlockStore;
 
 impl<S: BlockStore> Port<S> {
-    /// Returns the blocks that the next turn uses, if it executes the pending command at index `place`
-    /// ([`turn_at`](Port::turn_at)). Returns None if it executes none, if a check of the command
-    /// fails, or if the command uses no blocks. Of memory only what the turn reads matters.
+    /// Returns the blocks that this turn over a bus uses ([`turn_at`](Port::turn_at)). Returns None if it executes no
+    /// command, if a check of the command fails, or if the command uses no blocks. Of memory only what the turn reads
+    /// matters.
     ///
     /// A caller that reads and writes its images by calls of its own makes these blocks ready before the turn.
-    pub fn blocks_at(&self, memory: &[u8], place: usize, missing: Missing) -> Option<BlockUse>
+    pub fn blocks_at(&self, memory: &[u8], bus: &BusTurn) -> Option<BlockUse>
         requires memory { IsMemory memory.now }
-        ensures blocks { result ≡ blocks_of missing self.now memory.now place }
+        requires planned { IsPlan self.now memory.now bus.now.plan }
+        ensures blocks { result ≡ blocks_of bus.now.missing self.now memory.now bus.now.place }
+        ensures by_descriptors { (other : List ℕ) → AgreesInDescriptors self.now memory.now other
+            → blocks_of bus.now.missing self.now other bus.now.place ≡ result }
     {
-        let memory = self.memory_for(memory, missing)?;
-        self.exec.block_use_at(place, uda_mem::len(memory))
+        self.blocks_by(memory, bus)
     }
 
-    /// Fills `to` with bytes of the blocks that the next turn writes, after the first `skip` blocks, and returns
-    /// true ([`blocks_at`](Port::blocks_at)). Returns false and changes nothing if there aren't as many bytes.
-    pub fn copy_written(
-        &self,
-        memory: &[u8],
-        place: usize,
-        missing: Missing,
-        skip: u32,
-        to: &mut [u8],
-    ) -> bool
+    // Returns the same.
+    fn blocks_by(&self, memory: &[u8], bus: &BusTurn) -> Option<BlockUse>
         requires memory { IsMemory memory.now }
-        ensures fits { IsTrue result
-            ↔ (512 * skip + length to.old ≤ length (block_bytes_of missing self.now memory.now place)) }
+        requires planned { IsPlan self.now memory.now bus.now.plan }
+        ensures blocks { result ≡ blocks_of bus.now.missing self.now memory.now bus.now.place }
+    {
+        let memory = self.memory_for(bus, memory)?;
+        self.exec.block_use_at(bus.place, uda_mem::len(memory))
+    }
+
+    /// Fills `to` with bytes of the blocks that this turn over a bus writes, after the first `skip` blocks, and returns
+    /// true ([`blocks_at`](Port::blocks_at)). Returns false and changes nothing if there aren't as many bytes.
+    pub fn copy_written(&self, memory: &[u8], bus: &BusTurn, skip: u32, to: &mut [u8]) -> bool
+        requires memory { IsMemory memory.now }
+        requires planned { IsPlan self.now memory.now bus.now.plan }
+        ensures fits { IsTrue result ↔ (512 * skip + length to.old
+            ≤ length (block_bytes_of bus.now.missing self.now memory.now bus.now.place)) }
         ensures bytes { to.new ≡ (if result
-            then part (block_bytes_of missing self.now memory.now place) (512 * skip) (length to.old)
+            then part (block_bytes_of bus.now.missing self.now memory.now bus.now.place) (512 * skip) (length to.old)
             else to.old) }
     {
-        match self.memory_for(memory, missing) {
-            Some(memory) => self.exec.copy_written(place, memory, skip, to),
+        match self.memory_for(bus, memory) {
+            Some(memory) => self.exec.copy_written(bus.place, memory, skip, to),
             None => asks_none(skip, to),
         }
     }
 
-    // Returns the memory in which the next turn executes a pending command, if it executes one.
-    fn memory_for<'m>(&self, memory: &'m [u8], missing: Missing) -> Option<&'m [u8]>
+    // Returns the memory in which this turn executes a pending command, if it executes one.
+    fn memory_for<'m>(&self, bus: &BusTurn, memory: &'m [u8]) -> Option<&'m [u8]>
         requires memory { IsMemory memory.now }
-        ensures memory { option_map (λ m. m.now) result ≡ memory_for missing self.now memory.now }
+        requires planned { IsPlan self.now memory.now bus.now.plan }
+        ensures memory { option_map (λ m. m.now) result ≡ memory_for bus.now.missing self.now memory.now }
         ensures valid { IfSome result (λ m. IsMemory m.now) }
     {
-        let plan = self.plan(memory);
-        let fate = self.fate(missing, plan);
-        memory_executed(plan, fate, memory)
+        let fate = self.fate(bus.missing, bus.plan);
+        memory_executed(bus.plan, fate, memory)
     }
 }
 

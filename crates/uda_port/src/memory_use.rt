@@ -1,7 +1,7 @@
 //! What a turn reads and writes of host memory.
 //!
 //! UDA50 Programmer's Documentation Kit: command ring polling, message envelopes, UNIBUS addresses.
-ghost use Rattle.std.specs.Prelude.{◌≡◌, ◌≤◌, ◌<◌, ◌+◌, ℕ, List, All, length};
+ghost use Rattle.std.specs.Prelude.{◌≡◌, ◌≤◌, ◌<◌, ◌+◌, ℕ, List, All, length, true};
 ghost use Rattle.uda_mem.specs.Slices.{IsMemory};
 ghost use Rattle.uda_mem.specs.Ranges.{LiesIn};
 ghost use Rattle.uda_exec.specs.Disks.{PENDING_LIMIT};
@@ -9,10 +9,10 @@ ghost use Rattle.uda_port.specs.Fetch.{IsNext};
 ghost use Rattle.uda_port.specs.Interrupt.{ring_before};
 ghost use Rattle.uda_port.specs.Packet.{text_address};
 ghost use Rattle.uda_port.specs.Ring.{descriptor_address};
-ghost use Rattle.uda_port.specs.MemoryUse.{IsPlace, descriptor_ranges, packet_range, indicator_range, returned_range};
-ghost use Rattle.uda_port.specs.MemoryUse.{fetch_use, written_by_fetch, has_text, command_use, delivery_use};
-ghost use Rattle.uda_port.specs.MemoryUse.{has_room, looked_at, looked_up, use_by, use_of, AgreesInDescriptors};
-ghost use Rattle.uda_port.specs.Plan.{HasShortText, plan_of};
+ghost use Rattle.uda_port.specs.MemoryUse.{IsPlace, IsBody, descriptor_ranges, packet_range, indicator_range, returned_range};
+ghost use Rattle.uda_port.specs.MemoryUse.{fetch_use, command_use, delivery_use};
+ghost use Rattle.uda_port.specs.MemoryUse.{looked_at, looked_up, use_by, use_of, AgreesInDescriptors};
+ghost use Rattle.uda_port.specs.Plan.{IsPlan};
 
 use crate::descriptor::Descriptor;
 use crate::packet::{TEXT, has_room, has_text};
@@ -26,14 +26,12 @@ use uda_mem::ByteRange;
 /// What the next turn uses of host memory, in addition to the descriptors that it reads
 /// ([`descriptor_ranges`](Port::descriptor_ranges)).
 #[derive(Clone, Copy, Debug, PartialEq, Eq)]
-pub struct MemoryUse {
+pub struct Body {
     /// The packet, or the buffer of the command. The turn reads or writes it, or part of it. Of a transfer of 0 bytes it
     /// is one byte: the turn doesn't read it, but its address must lead somewhere.
-    pub body: ByteRange,
-    /// Whether the turn reads the body. If it doesn't, as the buffer of a Read, only its addresses matter.
-    pub reads_body: bool,
-    /// What the turn may write, in this order. Some of the ranges may be empty.
-    pub written: [ByteRange; 4],
+    pub range: ByteRange,
+    /// Whether the turn reads it. If it doesn't, as the buffer of a Read, only its addresses matter.
+    pub is_read: bool,
 }
 
 /// Which of the addresses that a turn uses lead nowhere.
@@ -43,7 +41,7 @@ pub struct Missing {
     pub commands: bool,
     /// Those of the next response descriptor.
     pub responses: bool,
-    /// Those of [`MemoryUse::body`].
+    /// Those of the body ([`Port::body`]).
     pub body: bool,
 }
 
@@ -54,22 +52,24 @@ pub(crate) const NONE_WRITTEN: [ByteRange; 4] = [
     ByteRange::EMPTY,
 ];
 
-/// The use of a turn that uses only descriptors.
-const NO_USE: MemoryUse = MemoryUse {
-    body: ByteRange::EMPTY,
-    reads_body: false,
-    written: NONE_WRITTEN,
+/// The body of a turn that uses only descriptors.
+const NO_BODY: Body = Body {
+    range: ByteRange::EMPTY,
+    is_read: false,
 };
 
 impl<S: BlockStore> Port<S> {
-    /// Returns the index of the pending command that the next turn executes, if it executes one. It is for
+    /// Returns the index of the pending command that a turn of this plan executes, if it executes one. It is for
     /// [`memory_use`](Port::memory_use) and [`turn_at`](Port::turn_at), and remains valid until something else is
     /// done with the port.
-    pub fn next_place(&self) -> usize
+    pub fn next_place(&self, plan: Plan) -> usize
         ensures place { IsPlace self.now.exec.pending result }
         ensures within { result < PENDING_LIMIT }
     {
-        self.exec.next().unwrap_or(0)
+        match plan {
+            Plan::ToExecute => self.exec.next().unwrap_or(0),
+            _ => 0,
+        }
     }
 
     /// Returns the ranges of the next command descriptor, the one before it, the next response descriptor, and
@@ -90,94 +90,95 @@ impl<S: BlockStore> Port<S> {
         ]
     }
 
-    /// Returns what the next turn uses of memory, if it executes the pending command at index `place` when it
-    /// executes one. Of memory only the descriptors matter, and in the strict profile the length word of a
-    /// response buffer.
-    pub fn memory_use(&self, memory: &[u8], place: usize) -> MemoryUse
+    /// Returns what the next turn, of this plan, uses of memory, if it executes the pending command at index `place` when
+    /// it executes one. Of memory only the descriptors matter.
+    pub fn body(&self, plan: Plan, memory: &[u8], place: usize) -> Body
         requires memory { IsMemory memory.now }
-        ensures uses { result ≡ use_of self.now memory.now place }
-        ensures body_by_descriptors { (other : List ℕ) → AgreesInDescriptors self.now memory.now other
-            → (use_of self.now other place).body ≡ result.body }
-        ensures reads_by_descriptors { (other : List ℕ) → AgreesInDescriptors self.now memory.now other
-            → (use_of self.now other place).reads_body ≡ result.reads_body }
-        ensures body_within { LiesIn memory.now result.body }
-        ensures written_within { All (LiesIn memory.now) result.written }
+        requires planned { IsPlan self.now memory.now plan }
+        ensures body { IsBody result (use_of self.now memory.now place) }
+        ensures by_descriptors { (other : List ℕ) → AgreesInDescriptors self.now memory.now other
+            → IsBody result (use_of self.now other place) }
+        ensures within { LiesIn memory.now result.range }
     {
-        self.use_by(self.plan(memory), memory, place)
+        self.body_by(plan, memory, place)
     }
 
     // Returns what a turn of this plan uses of memory.
-    #[tactic(auto, using(crate::proofs::MemoryUseLaws::none_lies))]
-    pub(crate) fn use_by(&self, plan: Plan, memory: &[u8], place: usize) -> MemoryUse
+    fn body_by(&self, plan: Plan, memory: &[u8], place: usize) -> Body
         requires memory { IsMemory memory.now }
-        requires plan { plan ≡ plan_of self.now memory.now }
-        requires short { HasShortText plan }
-        ensures uses { result ≡ use_by self.now memory.now place plan }
-        ensures body_within { LiesIn memory.now result.body }
-        ensures written_within { All (LiesIn memory.now) result.written }
+        ensures body { IsBody result (use_by self.now memory.now place plan) }
+        ensures within { LiesIn memory.now result.range }
     {
         match plan {
-            Plan::ToFetch(next) => self.fetch_use(memory, next),
-            Plan::ToExecute => command_use(memory, self.exec.buffer_use_at(place)),
-            Plan::ToDeliver(next, size) => self.delivery_use(memory, next, size),
-            Plan::AtRest | Plan::NoCommandRing | Plan::NoMessage => NO_USE,
-            Plan::ToWait | Plan::NoResponseRing => NO_USE,
+            Plan::ToFetch(next) => self.packet_at(memory, next, TEXT),
+            Plan::ToExecute => command_body(memory, self.exec.buffer_use_at(place)),
+            Plan::ToDeliver(next, size) => self.packet_at(memory, next, size),
+            Plan::AtRest | Plan::NoCommandRing | Plan::NoMessage => NO_BODY,
+            Plan::ToWait | Plan::NoResponseRing => NO_BODY,
         }
     }
 
-    // Returns what the fetch of a packet uses.
-    fn fetch_use(&self, memory: &[u8], next: Descriptor) -> MemoryUse
+    // Returns the packet of a descriptor with a text of `size` bytes, which is read.
+    fn packet_at(&self, memory: &[u8], next: Descriptor, size: u16) -> Body
         requires memory { IsMemory memory.now }
-        requires next { IsNext self.now.commands memory.now next }
-        requires there { descriptor_address self.now.commands + 4 ≤ length memory.now }
-        ensures uses { result ≡ fetch_use self.now memory.now (text_address self.now.profile next) }
-        ensures body_within { LiesIn memory.now result.body }
-        ensures written_within { All (LiesIn memory.now) result.written }
+        ensures range { result.range ≡ packet_range memory.now (text_address self.now.profile next) size }
+        ensures read { result.is_read ≡ true }
+        ensures within { LiesIn memory.now result.range }
     {
-        let at = next.text_address(self.profile);
-        MemoryUse {
-            body: packet_range(memory, at, TEXT),
-            reads_body: true,
-            written: self.written_by_fetch(memory, next, has_text(memory, at, TEXT)),
+        Body {
+            range: packet_range(memory, next.text_address(self.profile), size),
+            is_read: true,
         }
     }
 
-    // Returns what a fetch writes, if the packet is readable.
-    fn written_by_fetch(&self, memory: &[u8], next: Descriptor, readable: bool) -> [ByteRange; 4]
+    // Returns what a turn of this plan may write of memory.
+    #[tactic(auto, using(crate::proofs::MemoryUseLaws::none_lies))]
+    pub(crate) fn written_by(&self, plan: Plan, memory: &[u8], place: usize) -> [ByteRange; 4]
         requires memory { IsMemory memory.now }
-        requires next { IsNext self.now.commands memory.now next }
-        requires there { descriptor_address self.now.commands + 4 ≤ length memory.now }
-        ensures written { result ≡ written_by_fetch self.now memory.now readable }
+        requires planned { IsPlan self.now memory.now plan }
+        ensures written { result ≡ (use_by self.now memory.now place plan).written }
         ensures within { All (LiesIn memory.now) result }
     {
-        if !readable {
-            return NONE_WRITTEN;
+        match plan {
+            Plan::ToFetch(next) => self.written_by_fetch(memory, next),
+            Plan::ToExecute => command_written(memory, self.exec.buffer_use_at(place)),
+            Plan::ToDeliver(next, size) => self.written_by_delivery(memory, next, size),
+            Plan::AtRest | Plan::NoCommandRing | Plan::NoMessage => NONE_WRITTEN,
+            Plan::ToWait | Plan::NoResponseRing => NONE_WRITTEN,
         }
-        [
-            indicator_range(self.command_indicator(memory, next)),
-            self.commands.returned_range(),
-            ByteRange::EMPTY,
-            ByteRange::EMPTY,
-        ]
     }
 
-    // Returns what the delivery of a message of `size` bytes uses.
-    fn delivery_use(&self, memory: &[u8], next: Descriptor, size: u16) -> MemoryUse
+    // Returns what the fetch of a packet writes: nothing if the packet isn't readable.
+    fn written_by_fetch(&self, memory: &[u8], next: Descriptor) -> [ByteRange; 4]
+        requires memory { IsMemory memory.now }
+        requires next { IsNext self.now.commands memory.now next }
+        requires there { descriptor_address self.now.commands + 4 ≤ length memory.now }
+        ensures written { result ≡ (fetch_use self.now memory.now (text_address self.now.profile next)).written }
+        ensures within { All (LiesIn memory.now) result }
+    {
+        if has_text(memory, next.text_address(self.profile), TEXT) {
+            [
+                indicator_range(self.command_indicator(memory, next)),
+                self.commands.returned_range(),
+                ByteRange::EMPTY,
+                ByteRange::EMPTY,
+            ]
+        } else {
+            NONE_WRITTEN
+        }
+    }
+
+    // Returns what the delivery of a message of `size` bytes writes: nothing if there is no room for it.
+    fn written_by_delivery(&self, memory: &[u8], next: Descriptor, size: u16) -> [ByteRange; 4]
         requires memory { IsMemory memory.now }
         requires next { IsNext self.now.responses memory.now next }
         requires there { descriptor_address self.now.responses + 4 ≤ length memory.now }
         requires short { size ≤ 48 }
-        ensures uses { result ≡ delivery_use self.now memory.now
-            (record { at = text_address self.now.profile next; bytes = size }) }
-        ensures body_within { LiesIn memory.now result.body }
-        ensures written_within { All (LiesIn memory.now) result.written }
+        ensures written { result ≡ (delivery_use self.now memory.now
+            (record { at = text_address self.now.profile next; bytes = size })).written }
+        ensures within { All (LiesIn memory.now) result }
     {
         let at = next.text_address(self.profile);
-        let mut uses = MemoryUse {
-            body: packet_range(memory, at, size),
-            reads_body: true,
-            written: NONE_WRITTEN,
-        };
         if has_room(self.profile, memory, at, size) {
             let text = ByteRange {
                 at,
@@ -188,9 +189,10 @@ impl<S: BlockStore> Port<S> {
                 bytes: 4,
             };
             let indicator = indicator_range(self.response_indicator(memory, next));
-            uses.written = [text, envelope, indicator, self.responses.returned_range()];
+            [text, envelope, indicator, self.responses.returned_range()]
+        } else {
+            NONE_WRITTEN
         }
-        uses
     }
 }
 
@@ -232,20 +234,32 @@ impl Ring {
     }
 }
 
-// Returns the use of a turn that executes a command with this buffer.
-fn command_use(memory: &[u8], buffer: Option<BufferUse>) -> MemoryUse
+// Returns the body of a turn that executes a command with this buffer.
+fn command_body(memory: &[u8], buffer: Option<BufferUse>) -> Body
     requires memory { IsMemory memory.now }
-    ensures uses { result ≡ command_use memory.now buffer }
-    ensures body_within { LiesIn memory.now result.body }
-    ensures written_within { All (LiesIn memory.now) result.written }
+    ensures body { IsBody result (command_use memory.now buffer) }
+    ensures within { LiesIn memory.now result.range }
 {
-    let mut uses = NO_USE;
-    if let Some(buffer) = buffer {
-        uses.body = ByteRange::clipped(buffer.start, looked_up(buffer), memory);
-        uses.reads_body = buffer.changed == 0;
-        uses.written[0] = ByteRange::clipped(buffer.start, buffer.changed, memory);
+    match buffer {
+        Some(buffer) => Body {
+            range: ByteRange::clipped(buffer.start, looked_up(buffer), memory),
+            is_read: buffer.changed == 0,
+        },
+        None => NO_BODY,
     }
-    uses
+}
+
+// Returns what a turn may write that executes a command with this buffer.
+fn command_written(memory: &[u8], buffer: Option<BufferUse>) -> [ByteRange; 4]
+    requires memory { IsMemory memory.now }
+    ensures written { result ≡ (command_use memory.now buffer).written }
+    ensures within { All (LiesIn memory.now) result }
+{
+    let mut written = NONE_WRITTEN;
+    if let Some(buffer) = buffer {
+        written[0] = ByteRange::clipped(buffer.start, buffer.changed, memory);
+    }
+    written
 }
 
 // Returns the number of bytes that a command looks up at its buffer's address.

@@ -1,9 +1,10 @@
 //! What the next turn will do.
 //!
 //! UDA50 Programmer's Documentation Kit: command ring polling, message envelopes, fatal errors.
-ghost use Rattle.std.specs.Prelude.{◌≡◌, ◌≤◌, IfSome};
+ghost use Rattle.std.specs.Prelude.{◌≡◌, ◌≤◌, IfSome, List, ℕ};
 ghost use Rattle.uda_mem.specs.Slices.{IsMemory};
-ghost use Rattle.uda_port.specs.Plan.{HasShortText, next_size, plan_of, plan_running, plan_without_fetch};
+ghost use Rattle.uda_port.specs.MemoryUse.{AgreesInDescriptors};
+ghost use Rattle.uda_port.specs.Plan.{HasShortText, IsPlan, next_size, plan_of, plan_running, plan_without_fetch};
 ghost use Rattle.uda_port.specs.Plan.{looks_at_commands, looks_at_responses};
 ghost use Rattle.uda_port.specs.Ring.{next_descriptor};
 ghost use Rattle.uda_port.specs.Turn.{may_fetch};
@@ -16,8 +17,8 @@ use uda_image::BlockStore;
 
 /// What the next turn will do, decided by the port and by the descriptors that it reads. The plan leaves open whether
 /// the packet or the response buffer is usable.
-#[derive(Clone, Copy)]
-pub(crate) enum Plan {
+#[derive(Clone, Copy, Debug, PartialEq, Eq)]
+pub enum Plan {
     /// The port doesn't run, and does nothing.
     AtRest,
     /// The port looks for a command, but the next command descriptor isn't in memory: it fails.
@@ -37,8 +38,19 @@ pub(crate) enum Plan {
 }
 
 impl<S: BlockStore> Port<S> {
-    /// Returns the plan of the next turn. [`turn`](Port::turn) applies the same rules, inlined in its own steps.
-    pub(crate) fn plan(&self, memory: &[u8]) -> Plan
+    /// Returns the plan of the next turn. Of memory only the descriptors matter. [`turn`](Port::turn) applies the same
+    /// rules, inlined in its own steps.
+    pub fn plan(&self, memory: &[u8]) -> Plan
+        requires memory { IsMemory memory.now }
+        ensures plan { IsPlan self.now memory.now result }
+        ensures by_descriptors { (other : List ℕ) → AgreesInDescriptors self.now memory.now other
+            → IsPlan self.now other result }
+    {
+        self.plan_in(memory)
+    }
+
+    // Returns the same, by the phase.
+    fn plan_in(&self, memory: &[u8]) -> Plan
         requires memory { IsMemory memory.now }
         ensures plan { result ≡ plan_of self.now memory.now }
         ensures short { HasShortText result }

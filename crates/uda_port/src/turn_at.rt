@@ -8,7 +8,7 @@ ghost use Rattle.uda_disk.specs.Units.{AreWellFormed};
 ghost use Rattle.uda_exec.specs.Order.{IsEligible};
 ghost use Rattle.uda_exec.specs.BlockChanges.{ChangesOnly};
 ghost use Rattle.uda_port.specs.BlockUse.{blocks_of, block_bytes_of};
-ghost use Rattle.uda_port.specs.Plan.{plan_of};
+ghost use Rattle.uda_port.specs.Plan.{plan_of, IsPlan};
 ghost use Rattle.uda_port.specs.Port.{CreditsAgree};
 ghost use Rattle.uda_port.specs.Trace.{Reports, Traces, turn_of};
 ghost use Rattle.uda_port.specs.Turn.{TurnEffect, may_fetch, port_turn_on, port_not_polling};
@@ -30,9 +30,12 @@ use uda_exec::bytes_moved;
 use uda_image::BlockStore;
 use uda_mem::ByteRange;
 
-/// What the caller of a turn over a bus decides: which command it executes, and which addresses lead nowhere.
+/// The next turn over a bus, before it is taken: what it will do, which command it executes, and which addresses lead
+/// nowhere.
 #[derive(Clone, Copy, Debug, PartialEq, Eq)]
 pub struct BusTurn {
+    /// What the turn will do, as [`plan`](Port::plan) returns it.
+    pub plan: Plan,
     /// The index of the pending command to execute. [`next_place`](Port::next_place) returns one, and
     /// [`is_place`](Port::is_place) tests one.
     pub place: usize,
@@ -69,9 +72,8 @@ impl<S: BlockStore> Port<S> {
     /// window, which has as many bytes as the bus has addresses.
     ///
     /// Before a turn over a bus the caller copies [`descriptor_ranges`](Port::descriptor_ranges) into the window, and
-    /// then the body of [`memory_use`](Port::memory_use), if the turn reads it. Nothing else in the window matters. After
-    /// the turn the caller copies the written ranges out of the window, in their order. The rest of a Read's buffer in
-    /// the window may hold anything.
+    /// plans the turn ([`plan`](Port::plan)). Then it copies the body ([`body`](Port::body)), if the turn reads it. The plan remains the same. Nothing else in the window matters. After the turn the caller copies the
+    /// written ranges out of the window, in their order. The rest of a Read's buffer in the window may hold anything.
     ///
     /// `missing` says in which of these ranges an address leads nowhere. A turn that needs one is
     /// as at the end of memory. For a packet, a response buffer or the next descriptor of a ring the port fails. A
@@ -92,6 +94,7 @@ impl<S: BlockStore> Port<S> {
     ) -> TurnTaken
         requires memory { IsMemory memory.old }
         requires place { IfSome bus (λ b. IsPlace self.old.exec.pending b.now.place) }
+        requires planned { IfSome bus (λ b. IsPlan self.old memory.old b.now.plan) }
         ensures effect { IfNone bus.entry (TurnEffect self.old.phase self.old memory.old result.turn self.new memory.new) }
         ensures none_told { IfNone bus.entry (result.written ≡ NONE_WRITTEN) }
         ensures effect_over_bus { IfSome bus.entry (λ b.
@@ -124,6 +127,7 @@ impl<S: BlockStore> Port<S> {
     ) -> TurnTaken
         requires memory { IsMemory memory.old }
         requires place { IfSome bus (λ b. IsPlace self.old.exec.pending b.now.place) }
+        requires planned { IfSome bus (λ b. IsPlan self.old memory.old b.now.plan) }
         ensures effect { IfNone bus.entry (TurnEffect self.old.phase self.old memory.old result.turn self.new memory.new) }
         ensures none_told { IfNone bus.entry (result.written ≡ NONE_WRITTEN) }
         ensures effect_over_bus { IfSome bus.entry (λ b.
@@ -154,6 +158,7 @@ impl<S: BlockStore> Port<S> {
     fn take_bus_turn(&mut self, memory: &mut [u8], bus: &BusTurn, trace: &mut Trace) -> TurnTaken
         requires memory { IsMemory memory.old }
         requires place { IsPlace self.old.exec.pending bus.now.place }
+        requires planned { IsPlan self.old memory.old bus.now.plan }
         ensures effect_over_bus { EffectWithout bus.now.missing bus.now.place (self.old, memory.old) result.turn
             (self.new, memory.new) }
         ensures local { IsLocal bus.now.missing bus.now.place (self.old, memory.old) result (self.new, memory.new) }
@@ -165,10 +170,9 @@ impl<S: BlockStore> Port<S> {
         ensures reports { Reports result.turn trace.new self.old self.new }
     {
         self.rings_are_valid();
-        let plan = self.plan(memory);
-        let uses = self.use_by(plan, memory, bus.place);
+        let plan = bus.plan;
         let fate = self.fate(bus.missing, plan);
-        let writable = written_by_fate(fate, uses.written);
+        let writable = written_by_fate(fate, self.written_by(plan, memory, bus.place));
         let turn = self.turn_by(memory, bus.place, fate, trace);
         let written = written_after(plan, self.newest_count(), writable);
         TurnTaken { turn, written }

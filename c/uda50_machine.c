@@ -249,8 +249,11 @@ static uint32_t move_blocks(const view *it, uda50_turn_use *turn, uint8_t *bytes
     return UDA50_OK;
 }
 
-/* Moves the blocks of the turn, and takes it. */
-static uint32_t end_with_blocks(const view *it, uda50_turn_use *turn)
+/* How a turn goes on when its blocks are moved. */
+typedef uint32_t next_step(const view *it, uda50_turn_use *turn);
+
+/* Moves the blocks of the turn, and goes on with it. */
+static uint32_t go_on_with_blocks(const view *it, uda50_turn_use *turn, next_step *go_on)
 {
     uint8_t piece[PIECE * BLOCK], *bytes = piece;
     uint32_t status;
@@ -263,7 +266,7 @@ static uint32_t end_with_blocks(const view *it, uda50_turn_use *turn)
         return UDA50_NO_MEMORY;
     status = move_blocks(it, turn, bytes);
     if (status == UDA50_OK)
-        status = end_turn(it, turn);
+        status = go_on(it, turn);
     turn->lent = (uda50_image){NULL, 0}; /* also if the turn wasn't taken */
     if (bytes != piece)
         free(bytes);
@@ -284,7 +287,7 @@ static uint32_t take_turn(const view *it, uda50_turn_use *turn)
 
     if (status != UDA50_OK)
         return status;
-    return uses_blocks(turn) ? end_with_blocks(it, turn) : end_turn(it, turn);
+    return uses_blocks(turn) ? go_on_with_blocks(it, turn, end_turn) : end_turn(it, turn);
 }
 
 /* Runs the turns in memory that is one array or that a map leads to. Returns UDA50_OTHER_KIND, and does nothing, if the
@@ -306,21 +309,59 @@ static uint32_t write_at_once(uda50 *handle, uint16_t word, const uda50_machine 
                           : uda50_write_sa_mapped(handle, word, m->memory, m->length, m->map);
 }
 
-/* Runs the turns by single steps. */
-static uint32_t run_by_steps(uda50 *handle, uint32_t turns, const uda50_machine *machine)
+/* Runs turns over map registers up to the next that uses blocks of a called image. */
+static uint32_t run_to_blocks(const view *it, uda50_turn_use *turn)
 {
-    uda50_turn_use turn = {.size = sizeof turn, .controller = (uintptr_t)handle};
-    view it;
-    uint32_t status = open_view(handle, machine, &it);
+    const uda50_machine *m = it->machine;
+    uint32_t status = uda50_run_to_blocks(it->handle, m->memory, m->length, m->map, it->bytes, it->length, turn);
 
-    if (status == UDA50_OK && turns == 0)
-        status = uda50_get_descriptors(handle, it.bytes, it.length, &turn); /* or why no turn can be taken */
-    for (; turns > 0 && status < UDA50_DEAD; turns--) {
-        status = take_turn(&it, &turn);
+    if (status == UDA50_NEEDS_BLOCKS)
+        note_window(it, turn);
+    return status;
+}
+
+/* Goes on with a run over map registers, with the blocks that were moved. */
+static uint32_t resume_run(const view *it, uda50_turn_use *turn)
+{
+    expect_window(it, turn);
+    return run_to_blocks(it, turn);
+}
+
+/* Runs the turns over map registers. */
+static uint32_t run_over_map(const view *it, uda50_turn_use *turn)
+{
+    uint32_t status = run_to_blocks(it, turn);
+
+    while (status == UDA50_NEEDS_BLOCKS)
+        status = go_on_with_blocks(it, turn, resume_run);
+    return status;
+}
+
+/* Runs the turns one by one. */
+static uint32_t run_by_turns(const view *it, uda50_turn_use *turn)
+{
+    uint32_t status = UDA50_OK;
+
+    if (turn->turns == 0)
+        return uda50_get_descriptors(it->handle, it->bytes, it->length, turn); /* or why no turn can be taken */
+    for (uint32_t left = turn->turns; left > 0 && status < UDA50_DEAD; left--) {
+        status = take_turn(it, turn);
         if (status == UDA50_IDLE)
             break;
     }
     return status;
+}
+
+/* Runs the turns by single steps. */
+static uint32_t run_by_steps(uda50 *handle, uint32_t turns, const uda50_machine *machine)
+{
+    uda50_turn_use turn = {.size = sizeof turn, .controller = (uintptr_t)handle, .turns = turns};
+    view it;
+    uint32_t status = open_view(handle, machine, &it);
+
+    if (status != UDA50_OK)
+        return status;
+    return machine->memory != NULL && machine->map != NULL ? run_over_map(&it, &turn) : run_by_turns(&it, &turn);
 }
 
 uint32_t uda50_machine_run(uda50 *handle, uint32_t turns, const uda50_machine *machine)

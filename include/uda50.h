@@ -82,7 +82,8 @@ enum {
     UDA50_OTHER_KIND = 80,       /* the unit's image is in memory and the call needs a called one, or the reverse; or a unit
                                     has a called image, and the call accepts none */
     UDA50_NOWHERE = 81,          /* an address leads nowhere; all others were copied */
-    UDA50_STALE = 82             /* a step of a turn is of another controller, of an earlier turn, or out of order */
+    UDA50_STALE = 82,            /* a step of a turn is of another controller, of an earlier turn, or out of order */
+    UDA50_NEEDS_BLOCKS = 83      /* a run stopped before a turn that uses blocks of a called image */
 };
 
 /* What a turn did. Each call that takes turns returns it. */

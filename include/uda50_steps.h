@@ -103,6 +103,7 @@ typedef struct {
     uda50_blocks blocks;        /* the blocks that the turn uses of a called image, unless the body is missing */
     uint32_t ready;             /* how many of these, from the first on, the emulator has moved */
     uda50_image lent;           /* the bytes of those blocks, for UDA50_READS; a turn empties it */
+    uint32_t turns;             /* how many turns uda50_run_to_blocks has left */
 } uda50_turn_use;
 
 /* Begins a turn: fills the descriptors of *turn, and sets all else to 0 but `size` and `controller`. Of the window only
@@ -134,6 +135,24 @@ uint32_t uda50_get_written(uda50 *handle, const uint8_t *window, size_t length, 
    hasn't 512 bytes for each ready block that the turn reads. Then the turn isn't taken, nothing has changed, and the
    call may be repeated. */
 uint32_t uda50_turn_at(uda50 *handle, uint8_t *window, size_t length, uda50_turn_use *turn);
+
+/* ---- Runs over map registers ---- */
+
+/* Runs up to `turns` turns of the struct over `memory`, which the bus reaches through `map`, and stops after one of
+   UDA50_IDLE or UDA50_DEAD. It also stops before each turn that uses blocks of a called image, and returns
+   UDA50_NEEDS_BLOCKS. So it takes the place of all other steps, and the emulator only moves the blocks.
+
+   The emulator sets the struct to zero but for `size`, `controller` and `turns`. The window has as many bytes as the bus
+   has addresses. After UDA50_NEEDS_BLOCKS the struct is as after uda50_get_body, and `turns` says how many turns are left.
+   The emulator moves the blocks as in step 3 of a turn, and makes the call again with the same struct. That takes the turn
+   by what the window has of it, and goes on. Until then the window is this controller's.
+
+   Otherwise it returns what the last turn did, or UDA50_IDLE if there was none. Or it returns the first that holds of
+   UDA50_NO_CONTROLLER, UDA50_BAD_LENGTH, also for a `size` that is too small, what uda50_run_mapped returns for a `map`
+   that no bus has, UDA50_BAD_LENGTH for a window that hasn't as many bytes as the bus has addresses, and what
+   uda50_turn_at returns for a struct with blocks. Then that turn isn't taken. */
+uint32_t uda50_run_to_blocks(uda50 *handle, uint8_t *memory, size_t length, const uda50_map *map, uint8_t *window,
+                             size_t addresses, uda50_turn_use *turn);
 
 /* ---- Words for SA ---- */
 

@@ -24,7 +24,7 @@ use Rattle.uda_port.specs.declared.plan.Plan.{Plan}
 use Rattle.uda_port.specs.declared.turn_at.BusTurn.{BusTurn}
 use Rattle.uda_bus.specs.declared.map.BusMap.{BusMap}
 use Rattle.uda_bus.specs.Bytes.{shown, stored, AllLead}
-use Rattle.uda_bus.specs.Turns.{bus_memory, body_read, stored_ranges, TellsMissing, IsBegun, IsMissing, TurnsThroughMap}
+use Rattle.uda_bus.specs.Turns.{bus_memory, body_read, stored_ranges, TellsMissing, IsBegun, IsMissing, TurnsAsBegun}
 use Rattle.uda_bus.proofs.ShownLaws.{length-shown, part_shown}
 use Rattle.uda_bus.proofs.CarriedLaws.{carried_agrees, carried_same, all_same-sym, all_same-trans, all_kept}
 
@@ -295,13 +295,13 @@ module _ (port : PortState) (map : BusMap) (memory window : List ℕ) where
       is_missing = is_missing commands responses whole told told' leads;
     }
 
-  pub turns_through_map : (it : BusTurn) (w2 w3 : List ℕ) (taken : TurnTaken) (after : PortState × List ℕ)
+  pub turns_as_begun : (it : BusTurn) (w2 w3 : List ℕ) (taken : TurnTaken) (after : PortState × List ℕ)
       → IsBegun map (length window) (port, memory) it w2 → IsLocal it.missing it.place (port, w2) taken (after.0, w3)
       → ((other : List ℕ) → Agrees port it.place w2 other
       → taken.written ≡ written_of it.missing (port, other) it.place (newest_count after.0))
       → after.1 ≡ stored_ranges map taken.written w3 memory
-      → TurnsThroughMap map (length window) (port, memory) taken.turn after
-  turns_through_map it w2 w3 taken after begun local is_written stores =
+      → TurnsAsBegun map (length window) (port, memory) it (taken.turn, after)
+  turns_as_begun it w2 w3 taken after begun local is_written stores =
       let place = it.place in
       let missing = it.missing in
       let agrees = begun.agrees in
@@ -309,16 +309,19 @@ module _ (port : PortState) (map : BusMap) (memory window : List ℕ) where
       let bus_after = carried written w3 bus in
       let kept : length w3 ≡ length w2 = ap length local.only ∙ length-carried (writable_of missing port w2 place) w3 w2 in
       let shared : All (SameIn w3 bus_after) written =
-      carried_agrees written w3 bus (agrees.same_length ∙ sym kept) in
-      record {
-        place = place;
-        missing = missing;
-        written = written;
-        bus_after = bus_after;
-        is_place = begun.is_place;
-        is_missing = begun.is_missing;
-        is_written = is_written bus agrees;
-        effect = local.elsewhere bus agrees;
-        only = carried_same written w3 bus_after bus shared;
-        memory_is = stores ∙ stored_same map written w3 bus_after memory shared;
-      }
+      carried_agrees written w3 bus (agrees.same_length ∙ sym kept) in (
+        record {
+          place = place;
+          missing = missing;
+          written = written;
+          bus_after = bus_after;
+          is_place = begun.is_place;
+          is_missing = begun.is_missing;
+          is_written = is_written bus agrees;
+          effect = local.elsewhere bus agrees;
+          only = carried_same written w3 bus_after bus shared;
+          memory_is = stores ∙ stored_same map written w3 bus_after memory shared;
+        },
+        refl,
+        refl,
+      )

@@ -67,6 +67,11 @@ pub record TurnsThroughMap (map : BusMap) (size : ℕ) (before : PortState × Li
   pub only : bus_after ≡ carried written bus_after (bus_memory map size before.1)
   pub memory_is : after.1 ≡ stored_ranges map written bus_after before.1
 
+-- the same of a turn that was begun
+abbrev pub TurnsAsBegun : BusMap → ℕ → PortState × List ℕ → BusTurn → Turn × (PortState × List ℕ) → Type 0
+TurnsAsBegun map size before bus after =
+    (goes : TurnsThroughMap map size before after.0 after.1) × (goes.place ≡ bus.place) × (goes.missing ≡ bus.missing)
+
 -- A word that the guest writes to SA is written over what the bus shows. Then what it zeroed is stored, and
 -- nothing else changes.
 pub record WritesSaThroughMap (map : BusMap) (size : ℕ) (before : PortState × List ℕ) (word : ℕ)

@@ -1,15 +1,18 @@
 //! Turns of a port over memory through map registers, and words that are written to its SA.
-ghost use Rattle.std.specs.Prelude.{◌≡◌, ◌↔◌, ◌%◌, ◌^◌, ◌≤◌, [], ◌∷◌, All, length, IsTrue};
+ghost use Rattle.std.specs.Prelude.{◌≡◌, ◌↔◌, ◌%◌, ◌^◌, ◌<◌, ◌≤◌, [], ◌∷◌, All, length, IsTrue};
 ghost use Rattle.std.specs.Prelude.{IsOk, IfOk, IfErr};
 ghost use Rattle.uda_mem.specs.Put.{part};
 ghost use Rattle.uda_mem.specs.Ranges.{LiesIn, carried};
 ghost use Rattle.uda_mem.specs.Slices.{IsMemory};
 ghost use Rattle.uda_disk.specs.Units.{AreWellFormed};
+ghost use Rattle.uda_exec.specs.BlockChanges.{ChangesOnly};
+ghost use Rattle.uda_exec.specs.Disks.{PENDING_LIMIT};
+ghost use Rattle.uda_port.specs.BlockUse.{blocks_of, block_bytes_of};
 ghost use Rattle.uda_port.specs.MemoryUse.{command_range, response_range, AgreesInDescriptors};
 ghost use Rattle.uda_port.specs.Port.{CreditsAgree};
 ghost use Rattle.uda_port.specs.Trace.{Traces, turn_of};
 ghost use Rattle.uda_bus.specs.Bytes.{stored, AllLead};
-ghost use Rattle.uda_bus.specs.Turns.{bus_memory, body_read, stored_ranges, IsBegun, TurnsThroughMap, WritesSaThroughMap};
+ghost use Rattle.uda_bus.specs.Turns.{bus_memory, body_read, stored_ranges, IsBegun, TurnsAsBegun, TurnsThroughMap, WritesSaThroughMap};
 ghost use Rattle.uda_bus.specs.Turns.{TellsMissing};
 
 use crate::map::BusMap;
@@ -113,9 +116,59 @@ impl BusMap<'_> {
         ensures window { length window.new ≡ length window.old }
         ensures length { length memory.new ≡ length memory.old }
     {
-        let bus = self.read_used(port, memory, window);
-        let taken = port.turn_at(window, Some(&bus), trace);
-        self.write_ranges(memory, &taken.written, window);
+        let bus = self.begin(port, memory, window);
+        self.end(port, memory, window, &bus, trace)
+    }
+
+    /// Reads into a window what the next turn of a port reads from the bus. Returns that turn, for [`end`](BusMap::end).
+    /// The bus has as many addresses as the window has bytes, and nothing else in the window matters.
+    pub fn begin<S: BlockStore>(&self, port: &Port<S>, memory: &[u8], window: &mut [u8]) -> BusTurn
+        requires window { IsMemory window.old }
+        ensures begun { IsBegun self.now (length window.old) (port.now, memory.now) result window.new }
+        ensures within { result.place < PENDING_LIMIT }
+        ensures length { length window.new ≡ length window.old }
+    {
+        let missing = self.read_descriptors(port, memory, window);
+        let plan = port.plan(window);
+        let place = port.next_place(plan);
+        let body = port.body(plan, window, place);
+        let whole = self.read_body(memory, body, window);
+        BusTurn {
+            plan,
+            place,
+            missing: Missing {
+                body: !whole,
+                ..missing
+            },
+        }
+    }
+
+    /// Takes a turn that was begun, and writes on the bus what it wrote in the window ([`begin`](BusMap::begin)). Only the
+    /// blocks of [`blocks_at`](Port::blocks_at) may change.
+    pub fn end<S: BlockStore>(
+        &self,
+        port: &mut Port<S>,
+        memory: &mut [u8],
+        window: &mut [u8],
+        bus: &BusTurn,
+        trace: &mut Trace,
+    ) -> Turn
+        requires window { IsMemory window.old }
+        requires begun { IsBegun self.now (length window.old) (port.old, memory.old) bus.now window.old }
+        ensures effect { TurnsAsBegun self.now (length window.old) (port.old, memory.old) bus.now
+            (result, (port.new, memory.new)) }
+        ensures used_blocks { ChangesOnly (blocks_of bus.now.missing port.old window.old bus.now.place)
+            (block_bytes_of bus.now.missing port.old window.old bus.now.place) port.old.exec.units port.new.exec.units }
+        ensures turn { result ≡ turn_of trace.new }
+        ensures accurate { Traces trace.new port.old port.new }
+        ensures credits { CreditsAgree port.new }
+        ensures four_units { length port.new.exec.units ≡ 4 }
+        ensures well_formed { AreWellFormed port.new.exec.units }
+        ensures window { length window.new ≡ length window.old }
+        ensures length { length memory.new ≡ length memory.old }
+    {
+        let taken = port.turn_at(window, Some(bus), trace);
+        self.store(memory, &taken.written, window);
         taken.turn
     }
 
@@ -158,27 +211,6 @@ impl BusMap<'_> {
         let missing = !self.leads(memory, area.at, area.bytes);
         let written = port.write_sa_at(word, window, missing);
         self.write_range(memory, written, window);
-    }
-
-    // Reads into a window what the next turn reads from the bus. Returns that turn.
-    fn read_used<S: BlockStore>(&self, port: &Port<S>, memory: &[u8], window: &mut [u8]) -> BusTurn
-        requires window { IsMemory window.old }
-        ensures begun { IsBegun self.now (length window.old) (port.now, memory.now) result window.new }
-        ensures length { length window.new ≡ length window.old }
-    {
-        let missing = self.read_descriptors(port, memory, window);
-        let plan = port.plan(window);
-        let place = port.next_place(plan);
-        let body = port.body(plan, window, place);
-        let whole = self.read_body(memory, body, window);
-        BusTurn {
-            plan,
-            place,
-            missing: Missing {
-                body: !whole,
-                ..missing
-            },
-        }
     }
 
     // Reads into a window the descriptors that a turn reads. Returns which of their addresses lead nowhere.
@@ -243,8 +275,8 @@ impl BusMap<'_> {
         )
     }
 
-    // Writes these ranges of a window on the bus, in their order.
-    fn write_ranges(&self, memory: &mut [u8], ranges: &[ByteRange], window: &[u8])
+    /// Writes these ranges of a window on the bus, in their order.
+    pub fn store(&self, memory: &mut [u8], ranges: &[ByteRange], window: &[u8])
         requires within { All (LiesIn window.now) ranges.now }
         ensures stored { memory.new ≡ stored_ranges self.now ranges.now window.now memory.old }
         ensures length { length memory.new ≡ length memory.old }

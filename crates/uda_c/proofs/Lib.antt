@@ -12,3 +12,4 @@ pub mod FittingUnits
 pub mod SavedUnits
 pub mod MapTurns
 mod WrittenBlocks
+mod BusRuns

@@ -7,6 +7,7 @@ use Rattle.uda_c.specs.declared.call_status.CallStatus.TheVariants.{Done, RanTur
 use Rattle.uda_c.specs.declared.call_status.CallStatus.TheVariants.{AlreadyAttached, NotAttached, BadLength, TooLarge}
 use Rattle.uda_c.specs.declared.call_status.CallStatus.TheVariants.{NotEmpty, HasController, NoSuchBus, NoSuchType}
 use Rattle.uda_c.specs.declared.call_status.CallStatus.TheVariants.{OtherVersion, BadState, OtherImages, BadFirstUnit, BadMap, OtherKind, Nowhere, Stale}
+use Rattle.uda_c.specs.declared.call_status.CallStatus.TheVariants.{NeedsBlocks}
 
 abbrev pub turn_code : Turn → ℕ
 turn_code turn.Idle = 0
@@ -38,3 +39,4 @@ status_code BadMap = 79
 status_code OtherKind = 80
 status_code Nowhere = 81
 status_code Stale = 82
+status_code NeedsBlocks = 83

@@ -19,3 +19,4 @@ pub mod UnitImage
 pub mod UnitImageLaws
 pub mod BlockRange
 pub mod Steps
+pub mod RunsToBlocks

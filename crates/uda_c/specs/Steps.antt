@@ -24,7 +24,7 @@ use Rattle.uda_c.specs.TurnUse.{missing_of, missing_before_body, IsPlaceOf, Take
 
 -- the number of bytes of the struct in C
 abbrev pub STRUCT_LENGTH : ℕ
-STRUCT_LENGTH = 152
+STRUCT_LENGTH = 160
 
 -- whether C has fewer bytes for the struct
 abbrev pub is_short : TurnUse → Bool
@@ -78,6 +78,7 @@ turn_begun c memory turn = record {
   blocks = NO_BLOCKS;
   ready = 0;
   lent = emptied turn.lent;
+  turns = turn.turns;
 }
 
 -- A turn begins: the struct is filled, and the controller has the struct's number. In a struct that is too short and in

@@ -51,6 +51,8 @@ pub enum CallStatus {
     Nowhere,
     /// A step of a turn is of another controller, of an earlier turn, or out of order.
     Stale,
+    /// A run stopped before a turn that uses blocks of an image that C reads and writes.
+    NeedsBlocks,
 }
 
 impl CallStatus {
@@ -87,6 +89,7 @@ impl CallStatus {
             CallStatus::OtherKind => 80,
             CallStatus::Nowhere => 81,
             CallStatus::Stale => 82,
+            CallStatus::NeedsBlocks => 83,
         }
     }
 }

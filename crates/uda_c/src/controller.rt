@@ -50,9 +50,9 @@ pub struct Controller {
     // Whether a unit has an image that C reads and writes by calls of its own.
     pub(crate) called: bool,
     // How many calls have changed it, modulo 2^64.
-    count: u64,
+    pub(crate) count: u64,
     // The number that C gave it when it began the steps of a turn last.
-    number: u64,
+    pub(crate) number: u64,
     // The window of the last call over a map, which the next one uses again.
     window: Option<Window>,
     pub(crate) alloc: Global,
@@ -835,7 +835,7 @@ fn failing(drive: Drive<UnitImage>, call: Option<u32>) -> Drive<UnitImage>
 }
 
 // Returns whether a turn is one of an idle or dead port.
-fn does_nothing(turn: Turn) -> bool
+pub(crate) fn does_nothing(turn: Turn) -> bool
     ensures { result ≡ does_nothing turn }
 {
     matches!(turn, Turn::Idle | Turn::Dead)

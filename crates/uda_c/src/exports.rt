@@ -18,6 +18,7 @@ ghost use Rattle.uda_c.specs.Saving.{Saves, Restores};
 ghost use Rattle.uda_c.specs.BlockRange.{AttachesCalled};
 ghost use Rattle.uda_c.specs.Maps.{OverMap, ReadsMapped, WritesMapped, TakesTurnsThroughMap, WritesSaOver};
 ghost use Rattle.uda_c.specs.Runs.{RunsWhereMemory, UnlessCalled};
+ghost use Rattle.uda_c.specs.RunsToBlocks.{RunsToBlocks};
 ghost use Rattle.uda_c.specs.Inspection.{GetsState, GetsLastTurn, GetsUnit};
 ghost use Rattle.uda_c.specs.Last.{TellsLine};
 
@@ -532,6 +533,35 @@ pub extern "C" fn uda50_run_mapped(
             controller.keep();
             controller.raise();
             let answer = controller.run_mapped(turns, memory, map).code();
+            controller.keep();
+            answer
+        }
+        None => CallStatus::NoController.code(),
+    }
+}
+
+/// Runs turns over memory through map registers, and stops before each turn that uses blocks of an image that C reads and
+/// writes.
+#[unsafe(no_mangle)]
+pub extern "C" fn uda50_run_to_blocks(
+    handle: &mut Handle,
+    memory: &mut [u8],
+    map: &MapRegisters<'_>,
+    window: &mut [u8],
+    turn: &mut TurnUse,
+) -> u32
+    ensures runs { OnHandle handle.old.value handle.new.value
+        ((result ≡ status_code NoController)
+        × ((memory.new ≡ memory.old) × ((window.new ≡ window.old) × (turn.new ≡ turn.old))))
+        (λ old new. (answer : CallStatus) × (result ≡ status_code answer)
+        × RunsToBlocks map.now (record { machine = (old, memory.old); window = window.old; turn = turn.old }) answer
+        (record { machine = (new, memory.new); window = window.new; turn = turn.new })) }
+    ensures valid { AreValid handle.old.value handle.new.value }
+{
+    match handle.get() {
+        Some(controller) => {
+            controller.keep();
+            let answer = controller.run_to_blocks(memory, map, window, turn).code();
             controller.keep();
             answer
         }

@@ -3,6 +3,7 @@
 
 mod block_range;
 mod blocks;
+mod bus_run;
 mod call_status;
 mod choices;
 mod controller;

@@ -4,6 +4,7 @@ ghost use Rattle.uda_c.specs.Slots.{is_empty};
 ghost use Rattle.uda_c.specs.TurnUse.{missing_of, missing_before_body};
 ghost use Rattle.uda_c.specs.Steps.{step_code, is_short, is_current, emptied, has_bytes};
 ghost use Rattle.uda_c.specs.ControllerState.{ControllerState};
+ghost use Rattle.uda_c.specs.RunsToBlocks.{turn_over};
 
 use crate::block_range::BlockRange;
 use crate::slot::Slot;
@@ -42,10 +43,12 @@ pub struct TurnUse {
     pub ready: u32,
     /// The bytes of these blocks, if the turn reads them.
     pub lent: Slot,
+    /// How many turns a run has left.
+    pub turns: u32,
 }
 
 /// The number of bytes of the struct in C.
-pub const STRUCT_LENGTH: usize = 152;
+pub const STRUCT_LENGTH: usize = 160;
 
 /// A step that another one follows.
 #[derive(Clone, Copy, Debug, PartialEq, Eq)]
@@ -103,6 +106,14 @@ impl TurnUse {
         ensures same { self.new ≡ self.old }
     {
         self.blocks.access != 1 || self.lent.length() == 512 * self.ready as usize
+    }
+
+    /// Ends the turn of a run: the struct has no blocks any more, and one turn less to run.
+    pub fn end_run_step(&mut self)
+        ensures { self.new ≡ turn_over self.old }
+    {
+        self.blocks = BlockRange::NONE;
+        self.turns = self.turns.saturating_sub(1);
     }
 
     /// Empties the struct of bytes that C has lent.

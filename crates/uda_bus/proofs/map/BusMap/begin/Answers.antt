@@ -1,5 +1,5 @@
 use Rattle.uda_bus.proofs.TurnLaws.{is_begun}
-use Rattle.uda_bus.proofs.map.BusMap.read_used.Goals as goal
+use Rattle.uda_bus.proofs.map.BusMap.begin.Goals as goal
 
 pub returns-clause-begun : goal.returns-clause-begun
 returns-clause-begun g c =

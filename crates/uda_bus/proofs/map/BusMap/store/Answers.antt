@@ -1,5 +1,5 @@
 use Rattle.uda_bus.proofs.TurnLaws.{stored_next, stored_all}
-use Rattle.uda_bus.proofs.map.BusMap.write_ranges.Goals as goal
+use Rattle.uda_bus.proofs.map.BusMap.store.Goals as goal
 
 pub loop-range-preserved : goal.loop-range-preserved
 loop-range-preserved c =

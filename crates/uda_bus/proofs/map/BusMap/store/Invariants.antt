@@ -1,6 +1,6 @@
 use Rattle.std.proofs.Common.{drop, ◌≡◌}
 use Rattle.uda_bus.specs.Turns.{stored_ranges}
-use Rattle.uda_bus.proofs.map.BusMap.write_ranges.Given as goal
+use Rattle.uda_bus.proofs.map.BusMap.store.Given as goal
 
 abbrev pub invariant-loop-range : goal.invariant-loop-range
 invariant-loop-range l =

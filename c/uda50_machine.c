@@ -267,7 +267,7 @@ static uint32_t go_on_with_blocks(const view *it, uda50_turn_use *turn, next_ste
     status = move_blocks(it, turn, bytes);
     if (status == UDA50_OK)
         status = go_on(it, turn);
-    turn->lent = (uda50_image){NULL, 0};
+    turn->lent = (uda50_image){NULL, 0}; /* also if the turn wasn't taken */
     if (bytes != piece)
         free(bytes);
     return status;

@@ -22,7 +22,7 @@
 
    One call at a time uses a handle. A handle may go from one thread to another, if a lock or the start or end of a
    thread orders the calls. Threads may use different handles at once. No call blocks. Only uda50_new, uda50_new_as,
-   uda50_turn_at, uda50_format_last_turn and the turns and words over mapped memory allocate memory. */
+   uda50_format_last_turn and the turns and words over mapped memory allocate memory. */
 #ifndef UDA50_H
 #define UDA50_H
 

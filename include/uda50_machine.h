@@ -83,9 +83,9 @@ enum {
    uda50_machine_write_sa returns UDA50_OK otherwise, or UDA50_NO_MEMORY. It accepts any length.
 
    Otherwise uda50_machine_turn and uda50_machine_run return what uda50_turn and uda50_run do. Or they return
-   UDA50_NO_FUNCTIONS, or UDA50_NO_MEMORY if there is no memory for a window or for the blocks of a Read or a Compare Host
-   Data. Then that turn isn't taken, and the next call tries again. uda50_machine_run may have taken turns before it, so take
-   the interrupt all the same. */
+   UDA50_NO_FUNCTIONS, or UDA50_NO_MEMORY if there is no memory for a window, or for more than 32 blocks of a Read or a
+   Compare Host Data. Then that turn isn't taken, and the next call tries again. uda50_machine_run may have taken turns before
+   it, so take the interrupt all the same. */
 uint32_t uda50_machine_turn(uda50 *handle, const uda50_machine *machine);
 uint32_t uda50_machine_run(uda50 *handle, uint32_t turns, const uda50_machine *machine);
 uint32_t uda50_machine_write_sa(uda50 *handle, uint16_t word, const uda50_machine *machine);

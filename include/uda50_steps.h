@@ -102,7 +102,7 @@ typedef struct {
     uint32_t reads_body;        /* 1 if the turn reads the body; 0 if its addresses need only lead somewhere */
     uda50_blocks blocks;        /* the blocks that the turn uses of a called image, unless the body is missing */
     uint32_t ready;             /* how many of these, from the first on, the emulator has moved */
-    uda50_image lent;           /* the bytes of those blocks, for UDA50_READS */
+    uda50_image lent;           /* the bytes of those blocks, for UDA50_READS; a turn empties it */
     uint32_t turns;             /* how many turns uda50_run_to_blocks has left */
 } uda50_turn_use;
 
@@ -125,14 +125,15 @@ uint32_t uda50_get_written(uda50 *handle, const uint8_t *window, size_t length, 
    first that isn't, the command fails: it ends with status 0x000B, a drive error, and the byte count of the blocks
    before. A missing address is treated as by the calls over mapped memory.
 
-   The bytes of `lent` are the library's during the call, as those of an image. A turn without blocks, and one that
-   doesn't read them, ignores `lent`. A Write is written before this call, so its end message tells which blocks were
-   written.
+   The bytes of `lent` are the library's during the call, as those of an image. It reads them in place. After a turn
+   `lent` is empty, and the bytes are the emulator's again: keep their address. A turn without blocks, and one that
+   doesn't read them, only empties `lent`. A Write is written before this call, so its end message tells which blocks
+   were written.
 
    Returns what uda50_turn does, or the first that holds of UDA50_NO_CONTROLLER, UDA50_STALE, UDA50_BAD_LENGTH, also for
    a `size` that is too small, and UDA50_TOO_LARGE. Then UDA50_BAD_LENGTH if `ready` is above `blocks.count`, or `lent`
-   hasn't 512 bytes for each ready block that the turn reads; or UDA50_NO_MEMORY if the library can't copy them. Then
-   the turn isn't taken, nothing has changed, and the call may be repeated. */
+   hasn't 512 bytes for each ready block that the turn reads. Then the turn isn't taken, nothing has changed, and the
+   call may be repeated. */
 uint32_t uda50_turn_at(uda50 *handle, uint8_t *window, size_t length, uda50_turn_use *turn);
 
 /* ---- Runs over map registers ---- */

@@ -633,7 +633,7 @@ static void ready_once(void)
             memcpy(bytes, memory + BUFFER, sizeof bytes);
             use.lent = (uda50_image){ bytes, reads_bytes(opcodes[n]) ? ready * BLOCK : 7 };
             EXPECT(bytes_of(&use, ready, ready == 3 ? 0 : DRIVE_ERROR), ready * BLOCK);
-            EXPECT(use.lent.at == bytes && use.lent.length == (reads_bytes(opcodes[n]) ? ready * BLOCK : 7), true);
+            EXPECT(use.lent.length, 0);
             make_pending(opcodes[n], 2 * BLOCK);
             EXPECT(ask(&use).count, 2);
             EXPECT(bytes_of(&use, 0, DRIVE_ERROR), 0);
@@ -667,6 +667,40 @@ static void lent_bytes(void)
     EXPECT(called_turn(), UDA50_EXECUTED);
     see();
     EXPECT(memcmp(memory + BUFFER, called.disks[0] + 5 * BLOCK, BLOCK), 0);
+}
+
+/* After its turn the library has no bytes that it was lent, whether the command used them all or not. A Read without
+   ready blocks gets none of them, and leaves its buffer as it is. */
+static void lent_for_one_turn(void)
+{
+    static const uint8_t opcodes[] = { READ, COMPARE, WRITE, ACCESS };
+    uda50_turn_use use;
+
+    for (uint32_t n = 0; n < 4 * sizeof opcodes; n++) {
+        uint8_t opcode = opcodes[n / 4], *bytes = malloc(3 * BLOCK);
+        uint32_t ready = n % 4;
+
+        begin(ARRAY);
+        fill();
+        make_pending(opcode, 3 * BLOCK);
+        ask(&use);
+        memcpy(bytes, memory + BUFFER, 3 * BLOCK);
+        use.lent = (uda50_image){ bytes, reads_bytes(opcode) ? ready * BLOCK : 3 * BLOCK };
+        EXPECT(bytes_of(&use, ready, ready == 3 ? 0 : DRIVE_ERROR), ready * BLOCK);
+        EXPECT(use.lent.length, 0);
+        memset(bytes, 0x77, 3 * BLOCK);
+        free(bytes);
+        memset(memory + BUFFER, 0x11, 3 * BLOCK);
+        make_pending(READ, 3 * BLOCK);
+        EXPECT(are(ask(&use), UDA50_READS, 3), true);
+        EXPECT(bytes_of(&use, 0, DRIVE_ERROR), 0);
+        for (uint32_t at = 0; at < 3 * BLOCK; at++)
+            EXPECT(memory[BUFFER + at], 0x11);
+        make_pending(READ, 3 * BLOCK); /* without the steps before uda50_turn_at */
+        EXPECT(bytes_after(DRIVE_ERROR), 0);
+        for (uint32_t at = 0; at < 3 * BLOCK; at++)
+            EXPECT(memory[BUFFER + at], 0x11);
+    }
 }
 
 /* The bytes of a Write, from any block on, and those of an Erase. */
@@ -705,28 +739,28 @@ static void refused_blocks(void)
     static uint8_t before[UDA50_STATE_LENGTH], after[UDA50_STATE_LENGTH], bytes[4 * BLOCK];
     uda50_turn_use use;
 
-    detach(&called, 0); /* with the memory that it had */
-    attach(&called, 0);
     begin(ARRAY);
     fill();
     make_pending(READ, 3 * BLOCK);
     EXPECT(are(ask(&use), UDA50_READS, 3), true);
     EXPECT(uda50_save(&called.uda, before, sizeof before), UDA50_OK);
-    for (uint32_t n = 0; n < 6; n++) {
-        static const size_t lengths[] = { 4 * BLOCK, 3 * BLOCK - 1, 2 * BLOCK, 0, 3 * BLOCK + 1, 3 * BLOCK };
+    for (uint32_t n = 0; n < 5; n++) {
+        static const size_t lengths[] = { 4 * BLOCK, 3 * BLOCK - 1, 2 * BLOCK, 0, 3 * BLOCK + 1 };
 
         use.ready = n == 0 ? 4 : 3;
         use.lent = (uda50_image){ bytes, lengths[n] };
-        allocations = 0;
-        allowed = n == 5 ? 0 : UINT32_MAX;
-        EXPECT(uda50_turn_at(&called.uda, called.physical, MEMORY, &use), n == 5 ? UDA50_NO_MEMORY : UDA50_BAD_LENGTH);
+        EXPECT(uda50_turn_at(&called.uda, called.physical, MEMORY, &use), UDA50_BAD_LENGTH);
         EXPECT(use.lent.at == bytes && use.lent.length == lengths[n], true);
     }
-    allowed = UINT32_MAX;
+    use.lent = (uda50_image){ bytes, 3 * BLOCK };
     EXPECT(uda50_turn_at(&called.uda, called.physical, MEMORY - 1, &use), UDA50_BAD_LENGTH);
+    EXPECT(use.lent.at == bytes && use.lent.length == 3 * BLOCK, true);
     EXPECT(uda50_save(&called.uda, after, sizeof after), UDA50_OK);
     EXPECT(memcmp(before, after, sizeof before), 0);
+    allocations = 0;
+    allowed = 0; /* a turn allocates nothing */
     EXPECT(bytes_of(&use, 3, 0), 3 * BLOCK);
+    allowed = UINT32_MAX;
     EXPECT(memcmp(memory + BUFFER, bytes, 3 * BLOCK), 0);
     make_pending(WRITE, 3 * BLOCK);
     ask(&use);
@@ -1352,6 +1386,7 @@ int main(int count, char **arguments)
     not_ready();
     ready_once();
     lent_bytes();
+    lent_for_one_turn();
     told_bytes();
     refused_blocks();
     statuses_of_images();

@@ -10,14 +10,14 @@ use Rattle.uda_disk.specs.Units.{UnitState}
 use Rattle.uda_exec.specs.declared.drive_unit.UnitInfo.{UnitInfo}
 use Rattle.uda_exec.specs.Drives.{DriveState, drive_in, fresh_unit, returned_drive, info_of, info_at, in_mode, with_drive}
 use Rattle.uda_port.specs.Port.{PortState, read_only_at}
-use Rattle.uda_c.specs.declared.call_status.CallStatus.TheVariants.{Done, NoSuchUnit, NotAttached, NoMemory, OtherKind}
+use Rattle.uda_c.specs.declared.call_status.CallStatus.TheVariants.{Done, NoSuchUnit, NotAttached, OtherKind}
 use Rattle.uda_c.specs.ControllerState.{ControllerState}
 use Rattle.uda_image.specs.Store.{StoreState}
 use Rattle.uda_called.specs.CalledImage.{none_ready}
 use Rattle.uda_c.specs.declared.block_range.Prepared.{Prepared}
 use Rattle.uda_c.specs.declared.call_status.CallStatus.{CallStatus}
 use Rattle.uda_c.specs.BlockRange.{LendsBlocks, AllowsBlocks, size_in, size_at, lend_answer_in, allow_answer_in, with_none_ready}
-use Rattle.uda_c.specs.UnitImage.{store_failing, store_lent, store_begun, store_prepared, lend_answer, allow_answer, is_called, is_called_in, LentAnswer, PreparedAnswer, status_of}
+use Rattle.uda_c.specs.UnitImage.{store_failing, store_lent, store_begun, store_prepared, lend_answer, allow_answer, is_called, is_called_in, ReadyAnswer, status_of}
 use Rattle.uda_c.specs.Controllers.{FailsAt, SetsProtection, unit_protected, port_protected, unit_with, with_store, port_put_back, has_image, unit_answer, failing_answer, is_called_at}
 
 -- a unit with a mode and a size has a drive
@@ -248,27 +248,23 @@ lent_faithful false first from store = refl
 -- the calls that lend blocks, or don't
 pub lends : (old : ControllerState) (u first : ℕ) (from : List ℕ) (made : Result Unit CallStatus)
     (answer : CallStatus) (new : ControllerState)
-    → unit_answer old u ≡ Done → LentAnswer (is_called_at old u) (status_of made)
-    → (status_of made ≢ NoMemory
-    → status_of made ≡ lend_answer_in first (length from) (slice_get old.port.exec.units u))
-    → (status_of made ≡ NoMemory → lend_answer_in first (length from) (slice_get old.port.exec.units u) ≡ Done)
+    → unit_answer old u ≡ Done → ReadyAnswer (is_called_at old u) (status_of made)
+    → status_of made ≡ lend_answer_in first (length from) (slice_get old.port.exec.units u)
     → IfOk made (λ _. (length from % 512 ≡ 0) × (first + length from / 512 ≤ size_at old u))
     → IfErr made (λ status. status ≢ Done) → answer ≡ status_of made
     → new ≡ with_store old u (store_lent (is_ok made) first from) → LendsBlocks old (u, first) from answer new
-lends old u first from (Ok done) answer new there kind answers no_memory fits fails is goes = record {
+lends old u first from (Ok done) answer new there kind answers fits fails is goes = record {
   no_image = λ no. absurd (no there);
-  kind = λ _. subst (LentAnswer (is_called_at old u)) (sym is) kind;
-  answers = λ _ memory. is ∙ answers (λ none. memory (is ∙ none));
-  no_memory = λ none. no_memory (sym is ∙ none);
+  kind = λ _. subst (ReadyAnswer (is_called_at old u)) (sym is) kind;
+  answers = λ _. is ∙ answers;
   fits = λ _. fits;
   lent = λ _. goes;
   refused = λ no. absurd (no is);
 }
-lends old u first from (Err status) answer new there kind answers no_memory fits fails is goes = record {
+lends old u first from (Err status) answer new there kind answers fits fails is goes = record {
   no_image = λ no. absurd (no there);
-  kind = λ _. subst (LentAnswer (is_called_at old u)) (sym is) kind;
-  answers = λ _ memory. is ∙ answers (λ none. memory (is ∙ none));
-  no_memory = λ none. no_memory (sym is ∙ none);
+  kind = λ _. subst (ReadyAnswer (is_called_at old u)) (sym is) kind;
+  answers = λ _. is ∙ answers;
   fits = λ done. absurd (fails (sym is ∙ done));
   lent = λ done. absurd (fails (sym is ∙ done));
   refused = λ _. goes ∙ nothing_changes old u;
@@ -287,14 +283,14 @@ prepared_faithful false way count store = refl
 -- the calls that make blocks ready which C prepared, or don't
 pub allows : (old : ControllerState) (u count : ℕ) (way : Prepared) (made : Result Unit CallStatus)
     (answer : CallStatus) (new : ControllerState)
-    → unit_answer old u ≡ Done → PreparedAnswer (is_called_at old u) (status_of made)
+    → unit_answer old u ≡ Done → ReadyAnswer (is_called_at old u) (status_of made)
     → status_of made ≡ allow_answer_in way count (slice_get old.port.exec.units u)
     → IfOk made (λ _. count ≤ size_at old u) → IfErr made (λ status. status ≢ Done) → answer ≡ status_of made
     → new ≡ with_store old u (store_prepared (is_ok made) way count)
     → AllowsBlocks old (u, count) way answer new
 allows old u count way (Ok done) answer new there kind answers fits fails is goes = record {
   no_image = λ no. absurd (no there);
-  kind = λ _. subst (PreparedAnswer (is_called_at old u)) (sym is) kind;
+  kind = λ _. subst (ReadyAnswer (is_called_at old u)) (sym is) kind;
   answers = λ _. is ∙ answers;
   fits = λ _. fits;
   allowed = λ _. goes;
@@ -302,7 +298,7 @@ allows old u count way (Ok done) answer new there kind answers fits fails is goe
 }
 allows old u count way (Err status) answer new there kind answers fits fails is goes = record {
   no_image = λ no. absurd (no there);
-  kind = λ _. subst (PreparedAnswer (is_called_at old u)) (sym is) kind;
+  kind = λ _. subst (ReadyAnswer (is_called_at old u)) (sym is) kind;
   answers = λ _. is ∙ answers;
   fits = λ done. absurd (fails (sym is ∙ done));
   allowed = λ done. absurd (fails (sym is ∙ done));

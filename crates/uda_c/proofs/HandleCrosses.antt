@@ -14,7 +14,7 @@ use Rattle.std.specs.contracts.alloc.Global.{the_row as Z}
 use Rattle.std.specs.contracts.impls.GlobalAllocator.TheImpl.{ghosts}
 use Rattle.circular_buffer.proofs.Crosses.{Cells-send, Deed-send}
 use Rattle.circular_buffer.specs.contracts.cells.Deed as Deed
-use Rattle.uda_c.proofs.Crosses.{lent_send, file_trace_send}
+use Rattle.uda_called.proofs.Crosses.{lent_send, file_trace_send}
 use Rattle.uda_c.specs.Held.{heap, held}
 use Rattle.uda_c.specs.ControllerState.{ControllerState}
 use Rattle.uda_port.specs.contracts.guest.Guest.{the_row as G}
@@ -45,7 +45,7 @@ trace_send : IsSend T
 trace_send = search (sendable, command_send, reply_send) depth 60 fits 30000
 
 called_send : IsSend B
-called_send = search (sendable, crosses, file_trace_send) depth 80 fits 30000
+called_send = search (sendable, crosses, lent_send, file_trace_send) depth 80 fits 30000
 
 image_send : IsSend I
 image_send = search (sendable, crosses, lent_send, called_send) depth 80 fits 30000

@@ -1,7 +1,7 @@
 -- Images that are lent and returned.
-use Rattle.std.proofs.Common.{◌≡◌, ◌≢◌, ℕ, ◌<◌, ◌≤◌, Bool, true, false, List, [], length, length-set, set, Option, Some, None, refl, sym, ap, subst, ◌∙◌, arith}
+use Rattle.std.proofs.Common.{◌≡◌, ◌≢◌, ◌⊎◌, inl, inr, ℕ, ◌<◌, ◌≤◌, Bool, true, false, List, [], length, length-set, set, Option, Some, None, refl, sym, ap, subst, ◌∙◌, arith}
 use Rattle.uda_port.specs.declared.profile.Profile.{Profile}
-use Rattle.std.specs.Prelude.{◌==◌, ◌||◌, option_map, slice_get, unwrap_or, is_some, if◌then◌else◌}
+use Rattle.std.specs.Prelude.{◌==◌, ◌||◌, option_map, slice_get, unwrap_or, is_some, is_ok, IfErr, Result, Ok, Err, if◌then◌else◌}
 use Rattle.std.proofs.lemmas.Bool.{le-ltb, ne_eqb}
 use Rattle.uda_disk.proofs.Slots.{slice_get-set_same}
 use Rattle.uda_disk.specs.Units.{UnitState}
@@ -16,12 +16,14 @@ use Rattle.uda_c.specs.declared.call_status.CallStatus.TheVariants.{Done, NoSuch
 use Rattle.uda_c.specs.CallStatus.{status_code}
 use Rattle.uda_c.specs.declared.unit_images.UnitImages.{UnitImages}
 use Rattle.uda_c.specs.declared.slot.Slot.{Slot}
-use Rattle.uda_c.specs.declared.lent.BorrowedBytes.{BorrowedBytes}
+use Rattle.uda_called.specs.declared.lent.BorrowedBytes.{BorrowedBytes}
 use Rattle.uda_image.specs.Store.{StoreState}
 use Rattle.uda_c.specs.BorrowedImage.{IsWhole}
-use Rattle.uda_c.specs.UnitImage.{lent_state, zero_state, bytes_of_store}
+use Rattle.uda_called.specs.CalledImage.{bytes_in}
+use Rattle.uda_c.specs.UnitImage.{lent_state, zero_state, bytes_of_store, status_of}
+use Rattle.uda_c.specs.Steps.{emptied}
 use Rattle.uda_c.specs.BlockRange.{AttachesCalled, size_answer}
-use Rattle.uda_c.specs.Slots.{empty_slot, lent_in, slot_of, is_empty, are_empty}
+use Rattle.uda_c.specs.Slots.{empty_slot, lent_in, slot_of, is_empty, are_empty, TakesSlot}
 use Rattle.uda_c.specs.Controllers.{Lending, Attaches, Detaches, MakesNew, OnHandle, GivesBack, Frees, image_answer, image_in, has_image, lent_drive, any_called}
 
 -- a unit that gets an image has it
@@ -65,6 +67,49 @@ attaches old u slot after hard bytes store new low free are whole gone fits stor
 -- the return of the same bytes leaves the slot unchanged
 pub put_back : (old new : Slot) (lent : BorrowedBytes) → new ≡ slot_of lent → lent ≡ lent_in old → new ≡ old
 put_back old new lent put were = put ∙ ap slot_of were
+
+-- ---- bytes that are lent for blocks
+
+-- what is left of lent bytes: none if the call is done, and otherwise all
+abbrev pub IsLeft : CallStatus → Option BorrowedBytes → Option BorrowedBytes → Type 0
+IsLeft answer old new = (answer ≡ Done) × (new ≡ None) ⊎ (answer ≢ Done) × (new ≡ old)
+
+-- what is left of the bytes in a slot
+abbrev pub IsLeftIn : CallStatus → Slot → Slot → Type 0
+IsLeftIn answer old new = (answer ≡ Done) × (new ≡ emptied old) ⊎ (answer ≢ Done) × (new ≡ old)
+
+pub is_left : (made : Result Unit CallStatus) (answer : CallStatus) (old new : Option BorrowedBytes)
+    → IfErr made (λ status. status ≢ Done) → answer ≡ status_of made → new ≡ (if is_ok made then None else old)
+    → IsLeft answer old new
+is_left (Ok done) answer old new fails is goes = inl (is, goes)
+is_left (Err status) answer old new fails is goes = inr ((λ done. fails (sym is ∙ done)), goes)
+
+pub bytes_taken : (lent : Option BorrowedBytes) (old new : Slot) → TakesSlot lent old new → bytes_in lent ≡ old.held
+bytes_taken (Some lent) old new took = ap (λ (l : BorrowedBytes). l.held) took.0
+bytes_taken None old new took = sym took.0
+
+-- a slot whose bytes were taken is empty
+slot_taken : (lent : Option BorrowedBytes) (old new : Slot) → TakesSlot lent old new → new ≡ emptied old
+slot_taken (Some lent) old new took =
+    took.2 ∙ sym (ap (λ b. if b then old else empty_slot) (ne_eqb (length old.held) 0 took.1))
+slot_taken None old new took =
+    took.1 ∙ sym (ap (λ (bytes : List ℕ). if length bytes == 0 then old else empty_slot) took.0)
+
+-- the slot after its bytes were lent, and what was left was put back
+pub left_is_put : (answer : CallStatus) (lent left : Option BorrowedBytes) (some : BorrowedBytes) (old empty new : Slot)
+    → TakesSlot lent old empty → IsLeft answer lent left → left ≡ Some some → new ≡ slot_of some
+    → IsLeftIn answer old new
+left_is_put answer lent left some old empty new took (inl (done, none)) is put = absurd (cc)
+left_is_put answer lent left some old empty new took (inr (refused, same)) is put =
+    let was : TakesSlot (Some some) old empty = subst (λ (l : Option BorrowedBytes). TakesSlot l old empty) (sym same ∙ is) took in
+    inr (refused, put_back old new some put was.0)
+
+pub none_is_left : (answer : CallStatus) (lent left : Option BorrowedBytes) (old empty : Slot)
+    → TakesSlot lent old empty → IsLeft answer lent left → left ≡ None → IsLeftIn answer old empty
+none_is_left answer lent left old empty took (inl (done, none)) is = inl (done, slot_taken lent old empty took)
+none_is_left answer lent left old empty took (inr (refused, same)) is =
+    let was : TakesSlot None old empty = subst (λ (l : Option BorrowedBytes). TakesSlot l old empty) (sym same ∙ is) took in
+    inr (refused, was.1)
 
 pub empty : (slot : Slot) → slot.held ≡ [] → true ≡ is_empty slot
 empty slot e = sym (ap (λ (bytes : List ℕ). length bytes == 0) e)

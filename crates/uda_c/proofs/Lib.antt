@@ -1,6 +1,5 @@
 mod HandleSteps
 mod SlotSteps
-mod Crosses
 mod HandleCrosses
 pub mod Images
 pub mod RunLaws

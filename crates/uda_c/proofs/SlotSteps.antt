@@ -23,11 +23,11 @@ use denote.RawPtr.Bytes.{bytes, bytes_apart, bytes_whole}
 use denote.Steps.{nothing, opens, closes}
 use denote.Struct.Struct.{within}
 use denote.Struct.Owning.{shape}
-use Rattle.uda_c.specs.Lies.{lies}
+use Rattle.uda_called.specs.Lies.{lies}
 use Rattle.uda_c.specs.SlotOwns.{slot_owns}
-use Rattle.uda_c.specs.declared.lent.BorrowedBytes.{BorrowedBytes}
+use Rattle.uda_called.specs.declared.lent.BorrowedBytes.{BorrowedBytes}
 use Rattle.uda_c.specs.declared.slot.Slot.{Slot}
-use Rattle.uda_c.specs.contracts.lent.BorrowedBytes.{the_row as L, the_type as lent_type}
+use Rattle.uda_called.specs.contracts.lent.BorrowedBytes.{the_row as L, the_type as lent_type}
 use Rattle.uda_c.specs.contracts.slot.Slot.{the_row as R, the_type}
 
 abbrev pub slot : Ptr → ℕ → List ℕ → Slot

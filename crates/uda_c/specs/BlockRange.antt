@@ -9,11 +9,11 @@ use Rattle.uda_exec.specs.Drives.{DriveState}
 use Rattle.uda_c.specs.declared.block_range.Prepared.{Prepared}
 use Rattle.uda_c.specs.declared.block_range.BlockRange.{BlockRange}
 use Rattle.uda_c.specs.declared.call_status.CallStatus.{CallStatus}
-use Rattle.uda_c.specs.declared.call_status.CallStatus.TheVariants.{Done, NoSuchUnit, AlreadyAttached, NotAttached, NoMemory, BadLength, TooLarge}
+use Rattle.uda_c.specs.declared.call_status.CallStatus.TheVariants.{Done, NoSuchUnit, AlreadyAttached, NotAttached, BadLength, TooLarge}
 use Rattle.uda_c.specs.ControllerState.{ControllerState}
 use Rattle.uda_c.specs.Controllers.{controller_with, has_image, unit_answer, is_called_at, with_store}
 use Rattle.uda_disk.specs.Units.{UnitState}
-use Rattle.uda_c.specs.UnitImage.{store_lent, zero_state, store_begun, lend_answer, allow_answer, store_prepared, LentAnswer, PreparedAnswer}
+use Rattle.uda_c.specs.UnitImage.{store_lent, zero_state, store_begun, lend_answer, allow_answer, store_prepared, ReadyAnswer}
 
 -- the number of a use in C
 abbrev pub access_code : BlockAccess → ℕ
@@ -80,7 +80,7 @@ size_in _ = 0
 abbrev pub size_at : ControllerState → ℕ → ℕ
 size_at c unit = size_in (slice_get c.port.exec.units unit)
 
--- the status of lending as many bytes from a block of a unit's image on, if no allocation fails
+-- the status of lending as many bytes from a block of a unit's image on
 abbrev pub lend_answer_in : ℕ → ℕ → Option (Option UnitState) → CallStatus
 lend_answer_in first bytes (Some (Some unit)) = lend_answer first bytes unit.store
 lend_answer_in first bytes _ = NotAttached
@@ -94,11 +94,9 @@ allow_answer_in prepared count _ = NotAttached
 pub record LendsBlocks (old : ControllerState) (place : ℕ × ℕ) (from : List ℕ) (answer : CallStatus)
     (new : ControllerState) : Type 0 where
   pub no_image : unit_answer old place.0 ≢ Done → answer ≡ unit_answer old place.0
-  pub kind : unit_answer old place.0 ≡ Done → LentAnswer (is_called_at old place.0) answer
-  pub answers : unit_answer old place.0 ≡ Done → answer ≢ NoMemory
+  pub kind : unit_answer old place.0 ≡ Done → ReadyAnswer (is_called_at old place.0) answer
+  pub answers : unit_answer old place.0 ≡ Done
       → answer ≡ lend_answer_in place.1 (length from) (slice_get old.port.exec.units place.0)
-  pub no_memory : answer ≡ NoMemory
-      → lend_answer_in place.1 (length from) (slice_get old.port.exec.units place.0) ≡ Done
   pub fits : answer ≡ Done → (length from % 512 ≡ 0) × (place.1 + length from / 512 ≤ size_at old place.0)
   pub lent : answer ≡ Done → new ≡ with_store old place.0 (store_lent true place.1 from)
   pub refused : answer ≢ Done → new ≡ old
@@ -107,7 +105,7 @@ pub record LendsBlocks (old : ControllerState) (place : ℕ × ℕ) (from : List
 pub record AllowsBlocks (old : ControllerState) (asked : ℕ × ℕ) (prepared : Prepared)
     (answer : CallStatus) (new : ControllerState) : Type 0 where
   pub no_image : unit_answer old asked.0 ≢ Done → answer ≡ unit_answer old asked.0
-  pub kind : unit_answer old asked.0 ≡ Done → PreparedAnswer (is_called_at old asked.0) answer
+  pub kind : unit_answer old asked.0 ≡ Done → ReadyAnswer (is_called_at old asked.0) answer
   pub answers : unit_answer old asked.0 ≡ Done
       → answer ≡ allow_answer_in prepared asked.1 (slice_get old.port.exec.units asked.0)
   pub fits : answer ≡ Done → asked.1 ≤ size_at old asked.0

@@ -1,8 +1,6 @@
 pub mod Choices
 pub mod Held
 pub mod LendsController
-pub mod Lies
-pub mod LendsBytes
 pub mod SlotOwns
 pub mod Slots
 pub mod BorrowedImage

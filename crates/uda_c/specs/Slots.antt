@@ -1,7 +1,7 @@
 -- The image in a struct of C: bytes, or none.
 use Rattle.std.specs.Prelude.{◌≡◌, ◌≢◌, [], length, Bool, ◌==◌, ◌&&◌, Option, Some, None}
 use denote.RawPtr.{null_ptr}
-use Rattle.uda_c.specs.declared.lent.BorrowedBytes.{BorrowedBytes}
+use Rattle.uda_called.specs.declared.lent.BorrowedBytes.{BorrowedBytes}
 use Rattle.uda_c.specs.declared.slot.Slot.{Slot}
 use Rattle.uda_c.specs.declared.unit_images.UnitImages.{UnitImages}
 

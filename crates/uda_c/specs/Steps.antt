@@ -141,6 +141,10 @@ GetsWritten c memory asked answer copied =
 abbrev pub has_bytes : TurnUse → Bool
 has_bytes turn = if turn.blocks.access == 1 then length turn.lent.held == 512 * turn.ready else true
 
+-- the struct without the bytes that C has lent
+abbrev pub without_lent : TurnUse → TurnUse
+without_lent turn = record turn { lent = emptied turn.lent }
+
 -- the first `ready` blocks of the struct are made ready, in the way of this use, of an image of which none was
 abbrev pub MakesBlocksReady : Option BlockAccess → ControllerState → TurnUse → CallStatus → ControllerState → Type 0
 MakesBlocksReady (Some Reads) c turn answer new =
@@ -160,15 +164,15 @@ pub record MakesReady (old : ControllerState) (turn : TurnUse) (answer : CallSta
   pub made : nat_lt turn.blocks.count turn.ready ≡ false → has_bytes turn ≡ true → turn.blocks.count ≢ 0
       → MakesBlocksReady (access_numbered turn.blocks.access) (blocks_dropped old turn.blocks) turn answer new
 
--- A turn over a window, of which the struct's ready blocks are first made ready. After it none of them is. If they
--- can't be made ready, there is no turn.
+-- A turn over a window, of which the struct's ready blocks are first made ready, and what C has lent is taken out of
+-- the struct. After it none of them is ready. If they can't be made ready, there is no turn, and the struct stays.
 pub record TurnsWithBlocks (before : ControllerState × List ℕ) (asked : TurnUse) (answer : CallStatus)
     (filled : TurnUse) (after : ControllerState × List ℕ) : Type 0 where
   pub made : CallStatus
   pub ready : ControllerState
   pub between : ControllerState
   pub makes : MakesReady before.0 asked made ready
-  pub turns : made ≡ Done → TakesTurnAt (raised ready, before.1) asked answer filled (between, after.1)
+  pub turns : made ≡ Done → TakesTurnAt (raised ready, before.1) (without_lent asked) answer filled (between, after.1)
   pub dropped : made ≡ Done → after.0 ≡ blocks_dropped between asked.blocks
   pub refused : made ≢ Done → (answer ≡ made) × ((filled ≡ asked) × (after ≡ (ready, before.1)))
 

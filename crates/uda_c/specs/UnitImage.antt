@@ -6,10 +6,8 @@ use Rattle.uda_image.specs.Store.{StoreState, ReadyBlocks}
 use Rattle.uda_disk.specs.Units.{UnitState}
 use Rattle.uda_called.specs.CalledImage.{called_state, zero_image, none_ready, can_lend, with_blocks_lent}
 use Rattle.uda_called.specs.CalledImage.{can_check, can_allow, ready_checked, ready_writable}
-use Rattle.uda_called.specs.declared.image.LendError.{LendError}
-use Rattle.uda_called.specs.declared.image.LendError.TheVariants.{Length, NoMemory as AllocationFailed}
 use Rattle.uda_c.specs.declared.call_status.CallStatus.{CallStatus}
-use Rattle.uda_c.specs.declared.call_status.CallStatus.TheVariants.{Done, NoMemory, BadLength, OtherKind}
+use Rattle.uda_c.specs.declared.call_status.CallStatus.TheVariants.{Done, BadLength, OtherKind}
 use Rattle.uda_c.specs.declared.block_range.Prepared.{Prepared}
 use Rattle.uda_c.specs.declared.block_range.Prepared.TheVariants.{Checked, Written}
 use Rattle.uda_c.specs.declared.unit_image.UnitImage.{UnitImage}
@@ -53,24 +51,14 @@ abbrev pub store_lent : Bool → ℕ → List ℕ → StoreState → StoreState
 store_lent true first from store = with_blocks_lent first from store
 store_lent false first from store = store
 
--- the status of blocks that can't be lent
-abbrev pub status_of_error : LendError → CallStatus
-status_of_error Length = BadLength
-status_of_error AllocationFailed = NoMemory
-
 abbrev pub status_of : Result Unit CallStatus → CallStatus
 status_of (Ok done) = Done
 status_of (Err status) = status
 
--- the status of a call that lends blocks
-abbrev pub LentAnswer : Bool → CallStatus → Type 0
-LentAnswer true answer = (answer ≡ Done) ⊎ ((answer ≡ BadLength) ⊎ (answer ≡ NoMemory))
-LentAnswer false answer = answer ≡ OtherKind
-
--- the status of a call that makes blocks ready which C prepared
-abbrev pub PreparedAnswer : Bool → CallStatus → Type 0
-PreparedAnswer true answer = (answer ≡ Done) ⊎ (answer ≡ BadLength)
-PreparedAnswer false answer = answer ≡ OtherKind
+-- the status of a call that makes blocks ready, of an image that C reads and writes or of another
+abbrev pub ReadyAnswer : Bool → CallStatus → Type 0
+ReadyAnswer true answer = (answer ≡ Done) ⊎ (answer ≡ BadLength)
+ReadyAnswer false answer = answer ≡ OtherKind
 
 -- the status of a call on the ready blocks of an image, which is of another kind if nobody makes its blocks ready
 abbrev pub by_ready : Option ReadyBlocks → (ReadyBlocks → CallStatus) → CallStatus
@@ -88,7 +76,7 @@ store_begun first store =
 abbrev pub called_begun : ℕ → StoreState → StoreState
 called_begun first store = if is_called store then store_begun first store else store
 
--- the status of lending as many bytes from this block on, if no allocation fails
+-- the status of lending as many bytes from this block on
 abbrev pub lend_answer : ℕ → ℕ → StoreState → CallStatus
 lend_answer first bytes store = by_ready store.ready
     (λ ready. if can_lend ready store.size first bytes then Done else BadLength)

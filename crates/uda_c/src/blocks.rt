@@ -1,11 +1,13 @@
 //! Images that C reads and writes by calls of its own, and the blocks of them that a turn uses.
-ghost use Rattle.std.specs.Prelude.{◌≡◌, ◌≢◌, ◌+◌, ◌*◌, ◌≤◌, length, Some};
+ghost use Rattle.std.specs.Prelude.{◌≡◌, ◌≢◌, ◌⊎◌, ◌+◌, ◌*◌, ◌≤◌, length, Some, None};
 ghost use Rattle.uda_image.specs.Limits.{store_limit};
 ghost use Rattle.uda_mem.specs.Slices.{IsMemory};
 ghost use Rattle.uda_c.specs.declared.call_status.CallStatus.TheVariants.{Done};
 ghost use Rattle.uda_c.specs.BlockRange.{AttachesCalled, LendsBlocks, AllowsBlocks, range_reported, with_none_ready};
 ghost use Rattle.uda_c.specs.BlockRange.{blocks_dropped};
-ghost use Rattle.uda_c.specs.Steps.{MakesReady, GetsWritten, CopiesWritten};
+ghost use Rattle.uda_c.specs.BlockRange.{access_numbered};
+ghost use Rattle.uda_c.specs.Steps.{MakesReady, MakesBlocksReady, without_lent, emptied, GetsWritten, CopiesWritten};
+ghost use Rattle.uda_called.specs.CalledImage.{bytes_in};
 ghost use Rattle.uda_port.specs.BlockUse.{blocks_of};
 ghost use Rattle.uda_port.specs.Plan.{IsPlan};
 ghost use Rattle.uda_c.specs.UnitImage.{status_of};
@@ -13,10 +15,10 @@ ghost use Rattle.uda_c.specs.UnitImage.{status_of};
 use crate::block_range::{BlockRange, Prepared};
 use crate::call_status::CallStatus;
 use crate::controller::{Controller, any_called, put_back};
-use crate::lent::BorrowedBytes;
 use crate::slot::Slot;
 use crate::turn_use::{Step, TurnUse};
 use crate::unit_image::UnitImage;
+use uda_called::BorrowedBytes;
 use uda_exec::BlockAccess;
 use uda_image::Drive;
 use uda_port::BusTurn;
@@ -36,7 +38,7 @@ impl Controller {
         if blocks == 0 {
             return CallStatus::BadLength;
         }
-        let Some(store) = UnitImage::of_calls(self.alloc, blocks) else {
+        let Some(store) = UnitImage::of_calls(blocks) else {
             return CallStatus::TooLarge;
         };
         self.port.set_drive(unit, Some(Drive { store, hard }));
@@ -64,10 +66,12 @@ impl Controller {
         }
     }
 
-    /// Makes only those of the turn's blocks ready that C has moved. Fails if there are fewer, or other bytes.
+    /// Makes only those of the turn's blocks ready that C has moved, and takes the bytes that it has lent. Fails if
+    /// there are fewer, or other bytes. Then it takes none.
     pub(crate) fn make_ready(&mut self, turn: &mut TurnUse) -> CallStatus
         ensures ready { MakesReady self.old turn.old result self.new }
-        ensures same { turn.new ≡ turn.old }
+        ensures taken { result ≡ Done → turn.new ≡ without_lent turn.old }
+        ensures refused { result ≢ Done → turn.new ≡ turn.old }
     {
         let blocks = turn.blocks;
         let ready = turn.ready;
@@ -75,9 +79,27 @@ impl Controller {
             return CallStatus::BadLength;
         }
         if blocks.count == 0 {
+            turn.forget_lent();
             return CallStatus::Done;
         }
         self.drop_blocks(blocks);
+        match self.make_blocks_ready(turn) {
+            CallStatus::Done => {
+                turn.forget_lent();
+                CallStatus::Done
+            }
+            refusal => refusal,
+        }
+    }
+
+    // Makes the turn's first blocks ready, as many as C has moved, of an image of which none is ready.
+    fn make_blocks_ready(&mut self, turn: &mut TurnUse) -> CallStatus
+        ensures ready { MakesBlocksReady (access_numbered turn.old.blocks.access) self.old turn.old result self.new }
+        ensures rest { without_lent turn.new ≡ without_lent turn.old }
+        ensures refused { result ≢ Done → turn.new ≡ turn.old }
+    {
+        let blocks = turn.blocks;
+        let ready = turn.ready;
         match blocks.use_of() {
             Some(BlockAccess::Reads) => self.lend_slot(blocks, &mut turn.lent),
             Some(BlockAccess::Checks) => self.allow_blocks(blocks.unit, Prepared::Checked, ready),
@@ -114,29 +136,18 @@ impl Controller {
         }
     }
 
-    // Lends the bytes of a slot as those of blocks from the first of these on.
-    #[tactic(auto, using(crate::proofs::Lending::put_back))]
+    // Lends the bytes of a slot as those of blocks from the first of these on. If it fails, they remain in the slot.
+    #[tactic(auto, using(crate::proofs::Lending::bytes_taken))]
     fn lend_slot(&mut self, blocks: BlockRange, slot: &mut Slot) -> CallStatus
         ensures lends { LendsBlocks self.old (blocks.unit, blocks.first) slot.old.held result self.new }
-        ensures same { slot.new ≡ slot.old }
+        ensures taken { (result ≡ Done) × (slot.new ≡ emptied slot.old) ⊎ (result ≢ Done) × (slot.new ≡ slot.old) }
     {
-        match slot.take() {
-            Some(lent) => {
-                let mut lent = lent;
-                let answer = self.lend_bytes(blocks, &mut lent);
-                slot.put(lent);
-                answer
-            }
-            None => self.lend_blocks(blocks.unit, blocks.first, &[]),
+        let mut lent = slot.take();
+        let answer = self.lend_blocks(blocks.unit, blocks.first, &mut lent);
+        if let Some(lent) = lent {
+            slot.put(lent);
         }
-    }
-
-    // Lends these bytes as those of blocks from the first of these on.
-    fn lend_bytes(&mut self, blocks: BlockRange, lent: &mut BorrowedBytes) -> CallStatus
-        ensures lends { LendsBlocks self.old (blocks.unit, blocks.first) lent.old.held result self.new }
-        ensures same { lent.new ≡ lent.old }
-    {
-        self.lend_blocks(blocks.unit, blocks.first, lent.bytes_mut())
+        answer
     }
 
     /// Fills `to` with bytes of the blocks that the next turn writes, after the first `skip` of them.
@@ -169,9 +180,10 @@ impl Controller {
         }
     }
 
-    // Lends the bytes of blocks of a unit's image from block `first` on.
-    fn lend_blocks(&mut self, unit: u32, first: u32, from: &[u8]) -> CallStatus
-        ensures lends { LendsBlocks self.old (unit, first) from.now result self.new }
+    // Lends bytes as those of blocks of a unit's image from block `first` on. If it fails, it takes none.
+    fn lend_blocks(&mut self, unit: u32, first: u32, from: &mut Option<BorrowedBytes>) -> CallStatus
+        ensures lends { LendsBlocks self.old (unit, first) (bytes_in from.old) result self.new }
+        ensures taken { (result ≡ Done) × (from.new ≡ None) ⊎ (result ≢ Done) × (from.new ≡ from.old) }
     {
         let unit = unit as usize;
         if unit > 3 {

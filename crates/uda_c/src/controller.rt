@@ -24,7 +24,6 @@ ghost use Rattle.uda_c.specs.Maps.{IsBusOf, map_answer, OverMap, TakesTurnThroug
 use crate::block_range::BlockRange;
 use crate::call_status::CallStatus;
 use crate::fits::{fits_controller, numbers_fit};
-use crate::lent::BorrowedBytes;
 use crate::map::{MapRegisters, MappedBus};
 use crate::saving::{RestoreRefusal, calls_have_drives, ops_have_commands};
 use crate::slot::Slot;
@@ -34,6 +33,7 @@ use crate::unit_images::UnitImages;
 use std::alloc::Global;
 use std::marker::Model;
 use uda_bus::Window;
+use uda_called::BorrowedBytes;
 use uda_disk::Mode;
 use uda_exec::Exec;
 use uda_image::{Drive, STORE_LIMIT};

@@ -9,8 +9,8 @@ ghost use Rattle.uda_image.specs.StoreLaws.{block_count-le, HasWholeBlocks-block
 ghost use Rattle.uda_c.specs.BorrowedImage.{borrowed_state, with_failing_call, IsWhole};
 ghost use Rattle.std.specs.List.{concat};
 
-use crate::lent::BorrowedBytes;
 use std::marker::Model;
+use uda_called::BorrowedBytes;
 use uda_image::{BlockStore, StoreError, blocks};
 
 /// An image in memory that C has lent: block after block.

@@ -12,7 +12,6 @@ mod fits;
 mod handle;
 mod inspection;
 mod last;
-mod lent;
 mod lent_image;
 mod map;
 mod saving;

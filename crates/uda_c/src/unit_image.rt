@@ -1,24 +1,22 @@
 //! The image of a unit: bytes that C has lent, or blocks that C reads and writes by calls of its own.
 ghost use Rattle.std.specs.Prelude.{◌≡◌, ◌≢◌, ◌+◌, ◌*◌, ◌<◌, ◌≤◌, true, false, [], length, option_map, Some, None};
-ghost use Rattle.std.specs.Prelude.{IfOk, IfErr, IfSome, IsOk, is_ok, is_some, nat_le, ◌/◌, ◌%◌};
+ghost use Rattle.std.specs.Prelude.{IfOk, IfErr, IfSome, IsOk, is_ok, is_some, nat_le, ◌/◌, ◌%◌, if◌then◌else◌};
 ghost use Rattle.std.specs.List.{concat};
 ghost use Rattle.uda_image.specs.AtOnce.{TriesToRead, TriesToWrite, ChecksBlocks};
 ghost use Rattle.uda_image.specs.Store.{Reads, Writes, KeepsAttributes, is_sound};
-ghost use Rattle.uda_called.specs.CalledImage.{zero_image};
+ghost use Rattle.uda_called.specs.CalledImage.{zero_image, bytes_in};
 ghost use Rattle.uda_c.specs.BorrowedImage.{IsWhole};
-ghost use Rattle.uda_c.specs.UnitImage.{unit_state, is_called, bytes_of_store, store_failing, store_lent, LentAnswer, PreparedAnswer, status_of, status_of_error};
+ghost use Rattle.uda_c.specs.UnitImage.{unit_state, is_called, bytes_of_store, store_failing, store_lent, ReadyAnswer, status_of};
 ghost use Rattle.uda_c.specs.UnitImage.{called_begun, lend_answer, allow_answer, store_prepared};
 ghost use Rattle.uda_c.specs.UnitImage.{zero_state, lent_state};
 ghost use Rattle.uda_c.specs.UnitImageLaws.{within_limit_of, whole_blocks_of};
 ghost use Rattle.uda_image.specs.Limits.{store_limit};
-ghost use Rattle.uda_c.specs.declared.call_status.CallStatus.TheVariants.{Done, NoMemory, OtherKind};
+ghost use Rattle.uda_c.specs.declared.call_status.CallStatus.TheVariants.{Done, OtherKind};
 
 use crate::block_range::Prepared;
 use crate::call_status::CallStatus;
-use crate::lent::BorrowedBytes;
 use crate::lent_image::BorrowedImage;
-use std::alloc::Global;
-use uda_called::{CalledImage, LendError};
+use uda_called::{BorrowedBytes, CalledImage};
 use uda_image::{BlockStore, StoreError};
 
 /// The image of a unit.
@@ -41,12 +39,12 @@ impl UnitImage {
 
     /// Returns an image of this many blocks that C reads and writes by calls of its own. Returns None if they
     /// are more than a store can have.
-    pub fn of_calls(alloc: Global, blocks: u64) -> Option<UnitImage>
+    pub fn of_calls(blocks: u64) -> Option<UnitImage>
         ensures fits { is_some result ≡ nat_le blocks store_limit }
         ensures state { IfSome result (λ image. unit_state image ≡ zero_state blocks) }
     {
         let blocks = u32::try_from(blocks).ok()?;
-        let image = CalledImage::new(alloc, blocks)?;
+        let image = CalledImage::new(blocks)?;
         Some(UnitImage::Called(image))
     }
 
@@ -97,24 +95,26 @@ impl UnitImage {
         }
     }
 
-    /// Lends the bytes of blocks from this one on.
-    pub fn lend(&mut self, first: u32, from: &[u8]) -> Result<(), CallStatus>
-        ensures state { unit_state self.new ≡ store_lent (is_ok result) first from.now (unit_state self.old) }
-        ensures answer { status_of result ≢ NoMemory
-            → status_of result ≡ lend_answer first (length from.now) (unit_state self.old) }
-        ensures no_memory { status_of result ≡ NoMemory
-            → lend_answer first (length from.now) (unit_state self.old) ≡ Done }
-        ensures kind { LentAnswer (is_called (unit_state self.old)) (status_of result) }
-        ensures fits { IfOk result (λ _. (length from.now % 512 ≡ 0)
-            × (first + length from.now / 512 ≤ (unit_state self.old).size)) }
+    /// Takes bytes that C lends, as those of blocks from this one on. If it fails, it takes none.
+    pub fn lend(&mut self, first: u32, from: &mut Option<BorrowedBytes>) -> Result<(), CallStatus>
+        ensures state { unit_state self.new
+            ≡ store_lent (is_ok result) first (bytes_in from.old) (unit_state self.old) }
+        ensures answer { status_of result ≡ lend_answer first (length (bytes_in from.old)) (unit_state self.old) }
+        ensures kind { ReadyAnswer (is_called (unit_state self.old)) (status_of result) }
+        ensures fits { IfOk result (λ _. (length (bytes_in from.old) % 512 ≡ 0)
+            × (first + length (bytes_in from.old) / 512 ≤ (unit_state self.old).size)) }
         ensures refused { IfErr result (λ status. status ≢ Done) }
+        ensures taken { from.new ≡ (if is_ok result then None else from.old) }
     {
         match self {
             UnitImage::Lent(_) => Err(CallStatus::OtherKind),
-            UnitImage::Called(image) => match image.lend(first, from) {
-                Ok(()) => Ok(()),
-                Err(error) => Err(status_of_error(error)),
-            },
+            UnitImage::Called(image) => {
+                if image.lend(first, from) {
+                    Ok(())
+                } else {
+                    Err(CallStatus::BadLength)
+                }
+            }
         }
     }
 
@@ -122,7 +122,7 @@ impl UnitImage {
     pub fn allow(&mut self, prepared: Prepared, count: u32) -> Result<(), CallStatus>
         ensures state { unit_state self.new ≡ store_prepared (is_ok result) prepared count (unit_state self.old) }
         ensures answer { status_of result ≡ allow_answer prepared count (unit_state self.old) }
-        ensures kind { PreparedAnswer (is_called (unit_state self.old)) (status_of result) }
+        ensures kind { ReadyAnswer (is_called (unit_state self.old)) (status_of result) }
         ensures fits { IfOk result (λ _. count ≤ (unit_state self.old).size) }
         ensures refused { IfErr result (λ status. status ≢ Done) }
     {
@@ -138,16 +138,6 @@ impl UnitImage {
         } else {
             Err(CallStatus::BadLength)
         }
-    }
-}
-
-// Returns the status of blocks that can't be lent.
-fn status_of_error(error: LendError) -> CallStatus
-    ensures { result ≡ status_of_error error }
-{
-    match error {
-        LendError::Length => CallStatus::BadLength,
-        LendError::NoMemory => CallStatus::NoMemory,
     }
 }
 

@@ -1,10 +1,10 @@
 -- The laws of images that a program reads and writes by calls of its own.
-use Rattle.std.proofs.Common.{◌≡◌, ◌+◌, ◌-◌, ◌*◌, ◌/◌, ◌%◌, ◌<◌, ◌≤◌, ℕ, List, [], ◌++◌, length, take, drop, replicate, Some, refl, sym, ap, ap₂, ◌∙◌, arith}
+use Rattle.std.proofs.Common.{◌≡◌, ◌+◌, ◌-◌, ◌*◌, ◌/◌, ◌%◌, ◌<◌, ◌≤◌, ℕ, List, [], length, take, drop, replicate, Some, refl, sym, ap, ap₂, ◌∙◌, arith}
 use Rattle.std.specs.Prelude.{slice_set}
 use Rattle.std.proofs.lemmas.List.{set-get_or, take-take, drop-take, drop-drop, take-replicate, length-replicate}
 use Rattle.std.proofs.lemmas.Option.{get_or_from_slice_get}
 use Rattle.uda_mem.specs.Put.{put, part}
-use Rattle.uda_mem.proofs.PutLaws.{length-put, length-part-le, part-next, part-put_apart, part-put_at}
+use Rattle.uda_mem.proofs.PutLaws.{length-put, length-part-le, part-put_at}
 use Rattle.uda_image.specs.AtOnce.{ReadsBlocks, WritesBlocks}
 use Rattle.uda_image.specs.File.{fitted}
 use Rattle.uda_image.specs.Image.{block_count_of, block_of, blocks_of}
@@ -56,32 +56,23 @@ kept_written size lent image n count from is there = record {
   lent_is = refl;
 }
 
--- the blocks of these bytes are lent too
+-- the blocks of these bytes are lent
 pub kept_lent : (size : ℕ) (lent : List ℕ) (image : CalledBlocks) (from : List ℕ) → IsKept size lent image
-    → length from % 512 ≡ 0 → image.ready.first + image.ready.lent + length from / 512 ≤ size
-    → IsKept size (lent ++ from) (with_lent (image.ready.first + image.ready.lent) from image)
+    → length from % 512 ≡ 0 → image.ready.first + length from / 512 ≤ size
+    → IsKept size from (with_lent image.ready.first from image)
 kept_lent size lent image from is whole room =
-    let first = 512 * image.ready.first in
-    let before = 512 * image.ready.lent in
-    let at = 512 * (image.ready.first + image.ready.lent) in
-    let size_is : 512 * (image.ready.lent + length from / 512) ≡ before + length from = omega (arith, whole) in
+    let at = 512 * image.ready.first in
+    let size_is : 512 * (length from / 512) ≡ length from = omega (arith, whole) in
     let inside : at + length from ≤ length image.bytes = omega (arith, whole, room, is.whole) in
-    let place : first + before ≡ at = omega arith in
     let bytes = put image.bytes at from in
-    let front : part bytes first before ≡ lent =
-    part-put_apart image.bytes at from first before (λ meet. omega (arith, meet)) ∙ sym is.lent_is in
-    let back : part bytes (first + before) (length from) ≡ from =
-    ap (λ i. part bytes i (length from)) place ∙ part-put_at image.bytes at (length from) from inside refl in
     record {
       size_is = is.size_is ∙ sym (block_count-put image.bytes at from);
       whole = length-put image.bytes at from ∙ is.whole;
       ordered = is.ordered;
-      lent_within = omega (arith, room);
+      lent_within = room;
       checked_within = is.checked_within;
       writable_within = is.writable_within;
-      lent_is = sym (ap (part bytes first) size_is ∙ part-next bytes first before (length from)
-          ∙ ap (λ (b : List ℕ). b ++ part bytes (first + before) (length from)) front
-          ∙ ap (λ (b : List ℕ). lent ++ b) back);
+      lent_is = sym (ap (part bytes at) size_is ∙ part-put_at image.bytes at (length from) from inside refl);
     }
 
 -- a new image: what follows from no calls is zeros

@@ -1,14 +1,16 @@
 -- Images that a program reads and writes by calls of its own.
 -- MSCP Basic Disk Functions Manual: a unit is an array of logical blocks of 512 bytes, numbered from 0.
-use Rattle.std.specs.Prelude.{◌≡◌, ◌≤◌, ℕ, ◌+◌, ◌*◌, ◌/◌, ◌%◌, ◌-◌, Bool, true, false, ◌&&◌, nat_eq, nat_le, min, List, length, replicate, Some, None, option_map}
+use Rattle.std.specs.Prelude.{◌≡◌, ◌≤◌, ℕ, ◌+◌, ◌*◌, ◌/◌, ◌%◌, ◌-◌, Bool, true, false, ◌&&◌, nat_eq, nat_le, min, List, [], ◌∷◌, length, replicate, Option, Some, None, option_map}
 use Rattle.std.specs.Prelude.{if◌then◌else◌}
 use Rattle.std.specs.Simd.{first_chunks}
 use Rattle.uda_mem.specs.Put.{put, part}
 use Rattle.uda_image.specs.Image.{block_count_of, blocks_of}
 use Rattle.uda_image.specs.File.{Holding, holding_after}
+use Rattle.uda_image.specs.FileCall.{written}
 use Rattle.uda_image.specs.Store.{StoreState, ReadyBlocks}
 use Rattle.uda_image.specs.declared.trace.FileTrace.{FileTrace}
 use Rattle.uda_called.specs.declared.image.Ready.{Ready}
+use Rattle.uda_called.specs.declared.lent.BorrowedBytes.{BorrowedBytes}
 
 -- such an image: the bytes of its blocks, one after another, how many of its calls have failed, and which blocks are
 -- ready
@@ -46,17 +48,23 @@ begun_at first image = record image { ready = none_ready first }
 abbrev pub has_room : ReadyBlocks → ℕ → ℕ → ℕ → Bool
 has_room ready size these count = nat_le (ready.first + these + count) size
 
--- this many bytes from this block on are the next to lend: they are whole blocks, and the image has as many
+-- the bytes that a program lends, of which there may be none
+abbrev pub bytes_in : Option BorrowedBytes → List ℕ
+bytes_in (Some lent) = lent.held
+bytes_in None = []
+
+-- this many bytes can be lent from this block on: it is the first that is made ready, none is lent, they are whole
+-- blocks, and the image has as many
 abbrev pub can_lend : ReadyBlocks → ℕ → ℕ → ℕ → Bool
 can_lend ready size first bytes =
-    nat_eq first (ready.first + ready.lent) && nat_eq (bytes % 512) 0
-    && has_room ready size ready.lent (bytes / 512)
+    nat_eq ready.lent 0
+    && (nat_eq first ready.first && (nat_eq (bytes % 512) 0 && has_room ready size 0 (bytes / 512)))
 
--- as many more blocks are lent
+-- so many blocks are lent
 abbrev pub ready_lent : ℕ → ReadyBlocks → ReadyBlocks
-ready_lent count ready = record ready { lent = ready.lent + count }
+ready_lent count ready = record ready { lent = count }
 
--- the blocks of these bytes are lent too, from this one on
+-- the blocks of these bytes are lent, from this one on
 abbrev pub with_lent : ℕ → List ℕ → CalledBlocks → CalledBlocks
 with_lent first from image = record image {
   bytes = put image.bytes (512 * first) from;
@@ -120,6 +128,10 @@ checked_from ready n count =
 abbrev pub holding_by : ℕ → FileTrace → Holding
 holding_by size trace = holding_after size trace.held trace.blocks_left trace.calls
 
+-- the record of an image after bytes were lent from this block on: then it has these bytes, as after a write
+abbrev pub noted_lent : ℕ → List ℕ → FileTrace → FileTrace
+noted_lent first bytes trace = record trace { calls = written first bytes ∷ trace.calls }
+
 abbrev pub ready_blocks : Ready → ReadyBlocks
 ready_blocks ready = record {
   first = ready.first;
@@ -136,7 +148,8 @@ image_by size ready trace = record {
   ready = ready_blocks ready;
 }
 
--- the ready blocks are on the unit, and these are the bytes of the lent ones
+-- The ready blocks are on the unit, and the bytes that the program lends are those of the lent blocks. So if no block
+-- is lent, the image owns no bytes of the program.
 pub record IsKept (size : ℕ) (lent : List ℕ) (image : CalledBlocks) : Type 0 where
   pub size_is : size ≡ block_count_of image.bytes
   pub whole : length image.bytes ≡ 512 * size

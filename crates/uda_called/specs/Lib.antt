@@ -1,1 +1,3 @@
+pub mod Lies
+pub mod LendsBytes
 pub mod CalledImage

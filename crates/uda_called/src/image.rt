@@ -1,5 +1,5 @@
 //! Images that a program reads and writes by calls of its own.
-ghost use Rattle.std.specs.Prelude.{◌≡◌, ◌+◌, ◌++◌, ◌*◌, ◌/◌, ◌%◌, ◌<◌, ◌≤◌, ◌^◌, ◌↔◌, true, false, length, Ok, Err, IfOk, IfErr};
+ghost use Rattle.std.specs.Prelude.{◌≡◌, ◌+◌, ◌*◌, ◌/◌, ◌%◌, ◌<◌, ◌≤◌, ◌^◌, ◌∷◌, true, false, length, None, IfErr};
 ghost use Rattle.std.specs.Prelude.{if◌then◌else◌, is_ok, is_some, nat_le, IfSome};
 ghost use Rattle.uda_mem.specs.Put.{part};
 ghost use Rattle.uda_image.specs.AtOnce.{TriesToRead, TriesToWrite, ChecksBlocks};
@@ -8,10 +8,11 @@ ghost use Rattle.uda_image.specs.Limits.{store_limit};
 ghost use Rattle.uda_image.specs.Store.{Reads, Writes, KeepsAttributes};
 ghost use Rattle.uda_image.specs.StoreLaws.{block_count-le, HasWholeBlocks-blocks_of};
 ghost use Rattle.uda_called.specs.CalledImage.{called_state, none_ready, zero_image, begun_at, can_lend, with_lent, with_blocks_lent};
+ghost use Rattle.uda_called.specs.CalledImage.{bytes_in, noted_lent};
 ghost use Rattle.uda_called.specs.CalledImage.{can_check, can_allow, has_room, with_checked, with_writable, are_ready};
 ghost use Rattle.uda_called.specs.CalledImage.{with_failure, with_used, with_written, checked_from, ready_blocks};
 
-use std::alloc::Global;
+use crate::lent::BorrowedBytes;
 use std::marker::Model;
 use uda_image::{BlockStore, Call, FileTrace, STORE_LIMIT, StoreError, Supposition};
 
@@ -30,15 +31,6 @@ struct Ready {
     writable: u32,
 }
 
-/// Why blocks can't be lent.
-#[derive(Clone, Copy, Debug, PartialEq, Eq)]
-pub enum LendError {
-    /// It is another block than the next, the bytes aren't whole blocks, or the image has fewer.
-    Length,
-    /// An allocation failed.
-    NoMemory,
-}
-
 /// An image that a program reads and writes by calls of its own, outside of the proved code.
 ///
 /// Before a command the program makes the blocks ready that it will use. It reads them and lends their bytes. Or it
@@ -50,19 +42,19 @@ pub enum LendError {
 pub struct CalledImage {
     size: u32,
     ready: Ready,
-    // The bytes of the lent blocks.
-    bytes: Vec<u8>,
+    // The bytes of the lent blocks. They belong to the program again when the blocks aren't ready any more.
+    lent: Option<BorrowedBytes>,
     trace: FileTrace,
 }
 
 impl Model for CalledImage {
-    ghost use Rattle.uda_called.specs.CalledImage.{CalledBlocks, image_by, IsKept};
+    ghost use Rattle.uda_called.specs.CalledImage.{CalledBlocks, image_by, bytes_in, IsKept};
 
     ghost Value = { CalledBlocks };
 
     ghost view = { λ image. image_by image.size image.ready image.trace };
 
-    ghost invariant = { λ image. IsKept image.size image.bytes.items
+    ghost invariant = { λ image. IsKept image.size (bytes_in image.lent)
         (image_by image.size image.ready image.trace) };
 }
 
@@ -80,7 +72,7 @@ impl Ready {
 impl CalledImage {
     /// Returns an image of `blocks` blocks, of which none is ready. Returns None if they are more than
     /// [`STORE_LIMIT`].
-    pub fn new(alloc: Global, blocks: u32) -> Option<CalledImage>
+    pub fn new(blocks: u32) -> Option<CalledImage>
         ensures fits { is_some result ≡ nat_le blocks store_limit }
         ensures image { IfSome result (λ image. image ≡ zero_image blocks) }
     {
@@ -96,7 +88,7 @@ impl CalledImage {
                 checked: 0,
                 writable: 0,
             },
-            bytes: Vec::new(alloc),
+            lent: None,
             trace: FileTrace::new(&Supposition::of(&[], &[])),
         })
     }
@@ -119,7 +111,7 @@ impl CalledImage {
         requires on_unit { first ≤ block_count_of self.old.bytes }
         ensures begun { self.new ≡ begun_at first self.old }
     {
-        self.bytes.clear();
+        self.lent = None;
         self.ready = Ready {
             first,
             next: first,
@@ -129,32 +121,27 @@ impl CalledImage {
         };
     }
 
-    /// Lends the bytes of blocks from block `first` on, which is the one after those that are lent. Fails and changes
-    /// nothing, in this order, with:
-    ///
-    /// - `Length` if it is another block, if they aren't whole blocks, or if the image has fewer;
-    /// - `NoMemory` if an allocation fails.
-    pub fn lend(&mut self, first: u32, from: &[u8]) -> Result<(), LendError>
-        ensures lent { IfOk result (λ _. self.new ≡ with_lent first from.now self.old) }
-        ensures blocks { IfOk result (λ _. called_state self.new
-            ≡ with_blocks_lent first from.now (called_state self.old)) }
-        ensures unchanged { IfErr result (λ _. self.new ≡ self.old) }
-        ensures within { IfOk result (λ _. (length from.now % 512 ≡ 0)
-            × (first + length from.now / 512 ≤ block_count_of self.old.bytes)) }
-        ensures length { (result ≡ Err LendError.Length)
-            ↔ (can_lend self.old.ready (block_count_of self.old.bytes) first (length from.now) ≡ false) }
+    /// Takes bytes that the program lends, as those of blocks from block `first` on. The image owns them until these
+    /// blocks aren't ready any more. Returns false and changes nothing if blocks are lent already, if `first` isn't
+    /// the first block that is made ready, if the bytes aren't whole blocks, or if the image has fewer.
+    pub fn lend(&mut self, first: u32, from: &mut Option<BorrowedBytes>) -> bool
+        ensures fits { result ≡ can_lend self.old.ready (block_count_of self.old.bytes) first
+            (length (bytes_in from.old)) }
+        ensures lent { self.new ≡ (if result then with_lent first (bytes_in from.old) self.old else self.old) }
+        ensures blocks { result ≡ true → called_state self.new
+            ≡ with_blocks_lent first (bytes_in from.old) (called_state self.old) }
+        ensures within { result ≡ true → (length (bytes_in from.old) % 512 ≡ 0)
+            × (first + length (bytes_in from.old) / 512 ≤ block_count_of self.old.bytes) }
+        ensures taken { from.new ≡ (if result then None else from.old) }
     {
-        if !self.can_lend(first, from.len()) {
-            return Err(LendError::Length);
+        let bytes = length_of(from);
+        if !self.can_lend(first, bytes) {
+            return false;
         }
-        append(&mut self.bytes, from)?;
-        // For the trace a lend is a write: the image then has these bytes.
-        self.trace.note(&Call::Written {
-            block: first,
-            bytes: from,
-        });
-        self.ready.lent += (from.len() / 512) as u32;
-        Ok(())
+        note_lent(&mut self.trace, first, from);
+        self.ready.lent = (bytes / 512) as u32;
+        self.lent = from.take();
+        true
     }
 
     /// Makes the `count` blocks ready that follow the checked ones: they are readable. Returns false and changes
@@ -185,15 +172,16 @@ impl CalledImage {
         true
     }
 
-    // Returns whether this many bytes from this block on are the next to lend.
+    // Returns whether this many bytes from this block on can be lent.
     fn can_lend(&self, first: u32, bytes: usize) -> bool
         ensures fits { result ≡ can_lend self.now.ready (block_count_of self.now.bytes) first bytes }
-        ensures within { result ≡ true → (first ≡ self.now.ready.first + self.now.ready.lent) × (bytes % 512 ≡ 0)
-            × (self.now.ready.first + self.now.ready.lent + bytes / 512 ≤ block_count_of self.now.bytes) }
+        ensures within { result ≡ true → (self.now.ready.lent ≡ 0) × (first ≡ self.now.ready.first)
+            × (bytes % 512 ≡ 0) × (first + bytes / 512 ≤ block_count_of self.now.bytes) }
     {
-        u64::from(first) == u64::from(self.ready.first) + u64::from(self.ready.lent)
+        self.ready.lent == 0
+            && first == self.ready.first
             && bytes % 512 == 0
-            && self.has_room(self.ready.lent, (bytes / 512) as u64)
+            && self.has_room(0, (bytes / 512) as u64)
     }
 
     // Returns whether `count` blocks follow `these` from the first that is ready.
@@ -227,7 +215,7 @@ impl CalledImage {
         requires ready { self.old.ready.next ≤ n }
         ensures written { self.new ≡ with_written n count from.now self.old }
     {
-        self.bytes.clear();
+        self.lent = None;
         self.ready.lent = 0;
         self.ready.next = n + count;
         self.trace.note(&Call::Written {
@@ -236,38 +224,59 @@ impl CalledImage {
         });
     }
 
-    // Returns the bytes of lent blocks.
-    fn lent(&self, n: u32, count: u32) -> &[u8]
-        requires begins { self.now.ready.next ≤ n }
-        requires ends { n + count ≤ self.now.ready.first + self.now.ready.lent }
-        ensures value { result.now ≡ part self.now.bytes (512 * n) (512 * count) }
-        ensures long { length result.now ≡ 512 * count }
+    // Copies the bytes of lent blocks.
+    fn copy_lent(&mut self, n: u32, count: u32, to: &mut [u8])
+        requires begins { self.old.ready.next ≤ n }
+        requires ends { n + count ≤ self.old.ready.first + self.old.ready.lent }
+        requires long { length to.old ≡ 512 * count }
+        ensures value { to.new ≡ part self.old.bytes (512 * n) (512 * count) }
+        ensures same { self.new ≡ self.old }
     {
         let start = 512 * (n - self.ready.first) as usize;
-        part_of(self.bytes.as_slice(), start, 512 * count as usize)
+        copy_from(&mut self.lent, start, to);
     }
 }
 
-// Appends bytes. Changes nothing if an allocation fails.
-fn append(to: &mut Vec<u8>, from: &[u8]) -> Result<(), LendError>
-    ensures appended { IfOk result (λ _. to.new.items ≡ to.old.items ++ from.now) }
-    ensures unchanged { IfErr result (λ _. to.new.items ≡ to.old.items) }
-    ensures error { IfErr result (λ r. r ≡ LendError.NoMemory) }
+// Returns the number of lent bytes.
+fn length_of(lent: &mut Option<BorrowedBytes>) -> usize
+    ensures length { result ≡ length (bytes_in lent.old) }
+    ensures same { lent.new ≡ lent.old }
 {
-    match to.extend_from_slice(from) {
-        Ok(()) => Ok(()),
-        Err(_) => Err(LendError::NoMemory),
+    match lent {
+        Some(lent) => lent.bytes_mut().len(),
+        None => 0,
     }
 }
 
-// Returns `count` bytes from byte `at` on.
+// Notes that the image has these bytes from block `first` on. For the trace that is a write.
+fn note_lent(trace: &mut FileTrace, first: u32, lent: &mut Option<BorrowedBytes>)
+    ensures noted { trace.new ≡ noted_lent first (bytes_in lent.old) trace.old }
+    ensures same { lent.new ≡ lent.old }
+{
+    match lent {
+        Some(lent) => trace.note(&Call::Written {
+            block: first,
+            bytes: lent.bytes_mut(),
+        }),
+        None => trace.note(&Call::Written {
+            block: first,
+            bytes: &[],
+        }),
+    }
+}
+
+// Copies lent bytes from byte `at` on.
 #[tactic(auto, unfolding(uda_mem::specs::Put::part))]
-fn part_of(bytes: &[u8], at: usize, count: usize) -> &[u8]
-    requires within { at + count ≤ length bytes.now }
-    ensures value { result.now ≡ part bytes.now at count }
-    ensures long { length result.now ≡ count }
+fn copy_from(lent: &mut Option<BorrowedBytes>, at: usize, to: &mut [u8])
+    requires within { at + length to.old ≤ length (bytes_in lent.old) }
+    ensures value { to.new ≡ part (bytes_in lent.old) at (length to.old) }
+    ensures same { lent.new ≡ lent.old }
 {
-    &bytes[at..at + count]
+    if let Some(lent) = lent {
+        let bytes: &[u8] = lent.bytes_mut();
+        let end = at + to.len();
+        to.copy_from_slice(&bytes[at..end]);
+    }
 }
 
 impl BlockStore for CalledImage {
@@ -298,7 +307,7 @@ impl BlockStore for CalledImage {
             self.fail();
             return Err(StoreError::Read);
         }
-        to.copy_from_slice(self.lent(n, 1));
+        self.copy_lent(n, 1, to);
         self.use_up(n + 1);
         Ok(())
     }
@@ -332,7 +341,7 @@ impl BlockStore for CalledImage {
         if !self.ready.has(self.ready.lent, n, count) {
             return false;
         }
-        to.copy_from_slice(self.lent(n, count));
+        self.copy_lent(n, count, to);
         self.use_up(n + count);
         true
     }

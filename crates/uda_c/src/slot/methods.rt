@@ -4,8 +4,8 @@ ghost use Rattle.std.specs.Prelude.{◌≡◌, length};
 
 use super::Slot;
 use crate::controller::length_of;
-use crate::lent::BorrowedBytes;
 use std::ptr::null_mut;
+use uda_called::BorrowedBytes;
 
 impl Slot {
     /// Returns whether the slot has no bytes.

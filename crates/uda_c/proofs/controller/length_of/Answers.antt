@@ -1,5 +1,5 @@
 use Rattle.std.proofs.Common.{ap}
-use Rattle.uda_c.specs.LendsBytes.{with_held}
+use Rattle.uda_called.specs.LendsBytes.{with_held}
 use Rattle.uda_c.proofs.controller.length_of.Goals as goal
 
 pub returns-clause-same : goal.returns-clause-same

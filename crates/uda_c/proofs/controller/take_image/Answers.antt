@@ -1,5 +1,5 @@
 use Rattle.std.proofs.Common.{ap, length, ◌∙◌}
-use Rattle.uda_c.specs.declared.lent.BorrowedBytes.{BorrowedBytes}
+use Rattle.uda_called.specs.declared.lent.BorrowedBytes.{BorrowedBytes}
 use Rattle.uda_c.specs.Controllers.{image_answer}
 use Rattle.uda_c.proofs.Lending.{put_back}
 use Rattle.uda_c.proofs.controller.take_image.Goals as goal

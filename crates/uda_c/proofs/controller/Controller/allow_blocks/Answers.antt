@@ -5,7 +5,7 @@ use Rattle.uda_image.specs.Store.{StoreState}
 use Rattle.uda_exec.specs.Drives.{DriveState, drive_state}
 use Rattle.uda_c.specs.contracts.controller.Controller.{the_view}
 use Rattle.uda_c.specs.ControllerState.{ControllerState}
-use Rattle.uda_c.specs.UnitImage.{unit_state, store_prepared, PreparedAnswer, status_of}
+use Rattle.uda_c.specs.UnitImage.{unit_state, store_prepared, ReadyAnswer, status_of}
 use Rattle.uda_c.specs.Controllers.{with_store}
 use Rattle.uda_c.specs.BlockRange.{AllowsBlocks}
 use Rattle.uda_c.proofs.FailingUnits.{store_changes, is_handed, has_status, called_drive_is, allow_answer_is, drive_size_is, prepared_size, prepared_faithful, allows}
@@ -55,7 +55,7 @@ returns-in-Some-exchange_drive c =
       allows = subst (λ (old : ControllerState). AllowsBlocks old (c.args.unit, c.args.count) c.args.prepared c.status_of.result new)
           c.self.view_is
           (allows was c.args.unit c.args.count c.args.prepared c.allow-allowed.result c.status_of.result new there
-          (subst (λ b. PreparedAnswer b (status_of c.allow-allowed.result)) kind c.allow-allowed.ensures.kind)
+          (subst (λ b. ReadyAnswer b (status_of c.allow-allowed.result)) kind c.allow-allowed.ensures.kind)
           (c.allow-allowed.ensures.answer ∙ exact)
           (subst (λ (n : ℕ). IfOk c.allow-allowed.result (λ _. c.args.count ≤ n)) size c.allow-allowed.ensures.fits)
           c.allow-allowed.ensures.refused c.status_of.ensures is);

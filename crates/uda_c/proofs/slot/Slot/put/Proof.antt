@@ -18,7 +18,7 @@ use denote.Signature.{plain, types_at}
 use denote.Steps.{nothing}
 use denote.Triple.Walked.{Stays, stay_dropped, stay_ref, walk_of, Goes-dropped, Goes-ref}
 use Rattle.uda_c.specs.Slots.{slot_of}
-use Rattle.uda_c.specs.contracts.lent.BorrowedBytes.{the_row as L}
+use Rattle.uda_called.specs.contracts.lent.BorrowedBytes.{the_row as L}
 use Rattle.uda_c.specs.contracts.slot.Slot.{the_row as R}
 use Rattle.uda_c.proofs.SlotSteps.{slot, word, lent_out, slot_in, slot_opens, slot_closes}
 use Rattle.uda_c.specs.contracts.slot.Slot.put as f

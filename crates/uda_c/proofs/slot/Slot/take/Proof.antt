@@ -25,9 +25,9 @@ use Rattle.core.specs.declared.option.Option.{Option}
 use Rattle.core.specs.declared.option.Option.TheVariants.{None, Some}
 use Rattle.uda_c.specs.SlotOwns.{slot_owns}
 use Rattle.uda_c.specs.Slots.{TakesSlot, lent_in}
-use Rattle.uda_c.specs.declared.lent.BorrowedBytes.{BorrowedBytes}
+use Rattle.uda_called.specs.declared.lent.BorrowedBytes.{BorrowedBytes}
 use Rattle.uda_c.specs.declared.slot.Slot.{Slot}
-use Rattle.uda_c.specs.contracts.lent.BorrowedBytes.{the_row as L}
+use Rattle.uda_called.specs.contracts.lent.BorrowedBytes.{the_row as L}
 use Rattle.uda_c.specs.contracts.slot.Slot.{the_row as R}
 use Rattle.uda_c.proofs.SlotSteps.{slot, word, cell, slot_opens, slot_closes, lent_made, holds}
 use Rattle.uda_c.specs.contracts.slot.Slot.take as f

@@ -1,5 +1,5 @@
 //! Bytes that C has lent.
-ghost use Rattle.uda_c.specs.Lies.{lies};
+ghost use Rattle.uda_called.specs.Lies.{lies};
 ghost use Rattle.std.specs.Prelude.{List, ℕ};
 
 use std::marker::Model;

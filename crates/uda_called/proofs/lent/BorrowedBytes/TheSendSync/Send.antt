@@ -1,7 +1,7 @@
 -- Lent bytes may move to another thread.
 use denote.Param.Send.{IsSend}
-use Rattle.uda_c.proofs.Crosses.{lent_send}
-use Rattle.uda_c.specs.contracts.lent.BorrowedBytes.{the_row}
+use Rattle.uda_called.proofs.Crosses.{lent_send}
+use Rattle.uda_called.specs.contracts.lent.BorrowedBytes.{the_row}
 
 pub send : IsSend the_row
 send = lent_send

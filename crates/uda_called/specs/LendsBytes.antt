@@ -2,8 +2,8 @@ use Rattle.std.specs.Borrow.{Fml, MutBor, u8}
 use Rattle.std.specs.Prelude.{List, ℕ}
 use denote.Array.{Array}
 use denote.Follow.{follows}
-use Rattle.uda_c.specs.declared.lent.BorrowedBytes.{BorrowedBytes}
-use Rattle.uda_c.specs.contracts.lent.BorrowedBytes as lent
+use Rattle.uda_called.specs.declared.lent.BorrowedBytes.{BorrowedBytes}
+use Rattle.uda_called.specs.contracts.lent.BorrowedBytes as lent
 
 abbrev pub with_held : BorrowedBytes → List ℕ → BorrowedBytes
 with_held m xs = record m { held = xs }

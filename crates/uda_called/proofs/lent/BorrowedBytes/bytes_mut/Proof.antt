@@ -36,13 +36,13 @@ use denote.Struct.Struct.{Struct}
 use denote.Struct.Owning.{shape}
 use denote.Triple.Walked.{says, Stays, stay_dropped, walk_of, ends_at, Goes-spent_ref}
 use Rattle.core.proofs.alloc.Shapes.{after}
-use Rattle.uda_c.specs.LendsBytes.{with_held}
-use Rattle.uda_c.specs.declared.lent.BorrowedBytes.{BorrowedBytes}
-use Rattle.uda_c.specs.contracts.lent.BorrowedBytes.{the_row as R, the_type}
-use Rattle.uda_c.proofs.lent.BorrowedBytes.TheLaws.{lowers}
-use Rattle.uda_c.specs.contracts.lent.BorrowedBytes.bytes_mut as f
-use Rattle.uda_c.proofs.lent.BorrowedBytes.bytes_mut.Statement.{statement}
-use Rattle.uda_c.proofs.lent.BorrowedBytes.bytes_mut.Code as code
+use Rattle.uda_called.specs.LendsBytes.{with_held}
+use Rattle.uda_called.specs.declared.lent.BorrowedBytes.{BorrowedBytes}
+use Rattle.uda_called.specs.contracts.lent.BorrowedBytes.{the_row as R, the_type}
+use Rattle.uda_called.proofs.lent.BorrowedBytes.TheLaws.{lowers}
+use Rattle.uda_called.specs.contracts.lent.BorrowedBytes.bytes_mut as f
+use Rattle.uda_called.proofs.lent.BorrowedBytes.bytes_mut.Statement.{statement}
+use Rattle.uda_called.proofs.lent.BorrowedBytes.bytes_mut.Code as code
 
 abbrev stayed : Stays f.ended.signature.params f.ended.kept
 stayed = (stay_dropped (mut_ref_to (0 ∷ []) tt (plain (λ _. R))) no, tt)

@@ -1,5 +1,5 @@
 //! Access to the bytes.
-ghost use Rattle.uda_c.specs.LendsBytes.{lent_follows};
+ghost use Rattle.uda_called.specs.LendsBytes.{lent_follows};
 ghost use Rattle.std.specs.Prelude.{length, ◌≡◌};
 ghost use types.Logic.{sem};
 

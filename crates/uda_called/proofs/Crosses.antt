@@ -6,7 +6,7 @@ use denote.Struct.Owning.{shape, fields, to}
 use denote.Param.Send.{IsSend, AllSend, owning_send, struct_send, array_send, sendable}
 use Rattle.std_alloc.proofs.SendSync.{quiet, lies}
 use Rattle.uda_image.specs.contracts.trace.FileTrace as trace
-use Rattle.uda_c.specs.contracts.lent.BorrowedBytes.{the_row, the_type}
+use Rattle.uda_called.specs.contracts.lent.BorrowedBytes.{the_row, the_type}
 
 pub lent_send : IsSend the_row
 lent_send =

@@ -1,6 +1,0 @@
-use Rattle.std.proofs.Common.{ap}
-use Rattle.uda_c.specs.LendsBytes.{with_held}
-use Rattle.uda_c.proofs.controller.Controller.lend_bytes.Goals as goal
-
-pub returns-clause-same : goal.returns-clause-same
-returns-clause-same c = ap (with_held c.args.lent.now) c.bytes_mut.ensures.value

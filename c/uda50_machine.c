@@ -220,13 +220,15 @@ static bool can_move(const view *it, const uda50_blocks *blocks)
 static uint32_t move_piece(const view *it, uda50_turn_use *turn, uint8_t *piece, uint32_t wanted, uint32_t *moved)
 {
     const uda50_called *image = it->machine->images[turn->blocks.unit];
-    uint32_t lbn = turn->blocks.first + turn->ready, status = UDA50_OK;
+    uint32_t lbn = turn->blocks.first + turn->ready, status;
 
-    if (turn->blocks.use == UDA50_WRITES)
-        status = uda50_get_written(it->handle, it->bytes, it->length, turn, turn->ready, piece, wanted * BLOCK);
+    if (turn->blocks.use != UDA50_WRITES) {
+        *moved = image->read(image->context, lbn, wanted, piece);
+        return UDA50_OK;
+    }
+    status = uda50_get_written(it->handle, it->bytes, it->length, turn, turn->ready, piece, wanted * BLOCK);
     if (status == UDA50_OK)
-        *moved = turn->blocks.use == UDA50_WRITES ? image->write(image->context, lbn, wanted, piece)
-                                                  : image->read(image->context, lbn, wanted, piece);
+        *moved = image->write(image->context, lbn, wanted, piece);
     return status;
 }
 
@@ -267,7 +269,6 @@ static uint32_t go_on_with_blocks(const view *it, uda50_turn_use *turn, next_ste
     status = move_blocks(it, turn, bytes);
     if (status == UDA50_OK)
         status = go_on(it, turn);
-    turn->lent = (uda50_image){NULL, 0}; /* also if the turn wasn't taken */
     if (bytes != piece)
         free(bytes);
     return status;

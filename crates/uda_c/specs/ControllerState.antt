@@ -4,10 +4,12 @@ use Rattle.uda_port.specs.declared.trace.Trace.{Trace}
 use Rattle.uda_port.specs.Port.{PortState}
 
 -- Its port, the record of its last turn, and whether a unit has an image that C reads and writes by calls of its own.
--- How many calls have changed it, modulo 2^64. And the number that C gave it when it began the steps of a turn last.
+-- Whether the struct of the turn that was begun last is of its present turn. How many turns were begun by steps, modulo
+-- 2^64. And the number that C gave it when it began the last of them.
 pub record ControllerState : Type 0 where
   pub port : PortState
   pub last : Option Trace
   pub called : Bool
+  pub current : Bool
   pub count : ℕ
   pub number : ℕ

@@ -52,14 +52,14 @@ OnHandle None None without with = without
 OnHandle (Some old) (Some new) without with = with old new
 OnHandle _ _ without with = ⊥
 
--- the controller after one more call that changes it, as its count says
-abbrev pub raised : ControllerState → ControllerState
-raised c = record c { count = (c.count + 1) % 2 ^ 64 }
+-- the controller after a call that changes it: no struct is of its present turn
+abbrev pub closed : ControllerState → ControllerState
+closed c = record c { current = false }
 
--- The effect of a call that changes the controller of a handle. It first raises the count.
-abbrev pub OnRaised : Option ControllerState → Option ControllerState → Type 0
+-- The effect of a call that changes the controller of a handle. Whatever it does, no struct is of the present turn then.
+abbrev pub OnClosed : Option ControllerState → Option ControllerState → Type 0
     → (ControllerState → ControllerState → Type 0) → Type 0
-OnRaised old new without with = OnHandle old new without (λ c after. with (raised c) after)
+OnClosed old new without with = OnHandle old new without (λ c after. with (closed c) after)
 
 -- the invariant of the port of every controller that a handle has, before and after a call
 abbrev pub HoldsValid : Option ControllerState → Type 0
@@ -80,6 +80,7 @@ controller_at_start profile = record {
   called = false;
   count = 0;
   number = 0;
+  current = false;
 }
 
 -- whether a unit has an image

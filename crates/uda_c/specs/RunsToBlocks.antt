@@ -15,11 +15,11 @@ use Rattle.uda_c.specs.declared.map.MappedBus.{MappedBus}
 use Rattle.uda_c.specs.declared.turn_use.Step.TheVariants.{Filled}
 use Rattle.uda_c.specs.declared.turn_use.TurnUse.{TurnUse}
 use Rattle.uda_c.specs.BlockRange.{NO_BLOCKS, range_reported}
-use Rattle.uda_c.specs.Controllers.{raised}
+use Rattle.uda_c.specs.Controllers.{closed}
 use Rattle.uda_c.specs.ControllerState.{ControllerState}
 use Rattle.uda_c.specs.Maps.{IsBusOf, map_answer, TakesTurnThroughMap}
 use Rattle.uda_c.specs.Runs.{Machine, does_nothing, AfterTurn}
-use Rattle.uda_c.specs.Steps.{is_short, step_code, emptied, TurnsAt}
+use Rattle.uda_c.specs.Steps.{is_short, step_code, emptied, opened, TurnsAt}
 use Rattle.uda_c.specs.TurnUse.{missing_of}
 
 -- a run: the controller and the guest's memory, the window, and C's struct
@@ -50,9 +50,9 @@ pub record StopsAtBlocks (bus : MappedBus) (left : ℕ) (before : Machine) (aske
   pub blocks_are : after.turn.blocks ≡ range_reported before.0
       (blocks_of (missing_of after.turn.missing) before.0.port after.window after.turn.place)
   pub some : after.turn.blocks.count ≢ 0
-  pub stays : after.machine ≡ (record before.0 { number = asked.controller }, before.1)
+  pub stays : after.machine ≡ (opened before.0 asked, before.1)
   pub turn_is : after.turn ≡ record asked {
-    count = before.0.count;
+    count = (opened before.0 asked).count;
     step = step_code Filled;
     place = after.turn.place;
     missing = after.turn.missing;
@@ -103,7 +103,7 @@ pub record ResumesRun (bus : MappedBus) (before : BusRun) (answer : CallStatus) 
 -- A run begins, if the struct has no blocks, or goes on.
 pub record RunsOver (bus : MappedBus) (before : BusRun) (answer : CallStatus) (after : BusRun) : Type 0 where
   pub begins : before.turn.blocks.count ≡ 0
-      → TurnsToBlocks bus before.turn.turns Done ((raised before.machine.0, before.machine.1), before.turn) (answer, after)
+      → TurnsToBlocks bus before.turn.turns Done ((closed before.machine.0, before.machine.1), before.turn) (answer, after)
   pub resumes : before.turn.blocks.count ≢ 0 → ResumesRun bus before answer after
 
 -- A run over a map. It is refused, and nothing changes, if the struct is too short, if the map is invalid, or if the window

@@ -1,5 +1,5 @@
 -- The single steps of a turn, for C.
-use Rattle.std.specs.Prelude.{◌≡◌, ◌≢◌, ℕ, ◌+◌, ◌*◌, ◌≤◌, ◌==◌, ◌&&◌, ◌↔◌, nat_lt, Bool, true, false}
+use Rattle.std.specs.Prelude.{◌≡◌, ◌≢◌, ℕ, ◌+◌, ◌*◌, ◌%◌, ◌^◌, ◌≤◌, ◌==◌, ◌&&◌, ◌↔◌, nat_lt, Bool, true, false}
 use Rattle.std.specs.Prelude.{List, length, Option, Some, None, if◌then◌else◌}
 use Rattle.uda_mem.specs.Ranges.{EMPTY_RANGE}
 use Rattle.uda_mem.specs.Put.{part}
@@ -18,7 +18,7 @@ use Rattle.uda_c.specs.declared.turn_use.TurnUse.{TurnUse}
 use Rattle.uda_c.specs.BlockRange.{NO_BLOCKS, range_reported, access_numbered, blocks_dropped}
 use Rattle.uda_c.specs.BlockRange.{LendsBlocks, AllowsBlocks}
 use Rattle.uda_c.specs.ControllerState.{ControllerState}
-use Rattle.uda_c.specs.Controllers.{memory_refusal, raised}
+use Rattle.uda_c.specs.Controllers.{memory_refusal, closed}
 use Rattle.uda_c.specs.Slots.{is_empty, empty_slot}
 use Rattle.uda_c.specs.TurnUse.{missing_of, missing_before_body, IsPlaceOf, TakesTurnAt}
 
@@ -38,7 +38,7 @@ step_code Filled = 2
 -- whether the struct is of this controller's present turn, and this step was done last
 abbrev pub is_current : Step → ControllerState → TurnUse → Bool
 is_current step c turn =
-    turn.controller == c.number && (turn.count == c.count && turn.step == step_code step)
+    c.current && (turn.controller == c.number && (turn.count == c.count && turn.step == step_code step))
 
 -- A step that follows this one. It is refused if the struct isn't of the controller's present turn or out of order, if
 -- the struct is too short, and if the memory is invalid, in this order.
@@ -61,6 +61,10 @@ pub record IsRefused (step : Step) (before : ControllerState × TurnUse) (memory
 -- the slot of an image without its bytes
 abbrev pub emptied : Slot → Slot
 emptied slot = if is_empty slot then slot else empty_slot
+
+-- the controller after it began a turn of this struct
+abbrev pub opened : ControllerState → TurnUse → ControllerState
+opened c turn = record c { current = true; count = (c.count + 1) % 2 ^ 64; number = turn.controller }
 
 -- the struct of a turn that begins: its descriptors, and whose turn it is
 abbrev pub turn_begun : ControllerState → List ℕ → TurnUse → TurnUse
@@ -89,8 +93,8 @@ pub record BeginsTurn (before : ControllerState × TurnUse) (memory : List ℕ) 
   pub refuses : is_short before.1 ≡ false → (IsMemory memory → ⊥) → (answer ≡ memory_refusal memory) × (after ≡ before)
   pub done : is_short before.1 ≡ false → IsMemory memory → answer ≡ Done
   pub numbered : is_short before.1 ≡ false → IsMemory memory
-      → after.0 ≡ record before.0 { number = before.1.controller }
-  pub filled : is_short before.1 ≡ false → IsMemory memory → after.1 ≡ turn_begun before.0 memory before.1
+      → after.0 ≡ opened before.0 before.1
+  pub filled : is_short before.1 ≡ false → IsMemory memory → after.1 ≡ turn_begun (opened before.0 before.1) memory before.1
 
 -- The struct has the command that the next turn executes, if it executes one, and what the turn uses besides the
 -- descriptors. It has the blocks that the turn uses of an image by calls, if no address of the body leads nowhere.
@@ -172,7 +176,7 @@ pub record TurnsWithBlocks (before : ControllerState × List ℕ) (asked : TurnU
   pub ready : ControllerState
   pub between : ControllerState
   pub makes : MakesReady before.0 asked made ready
-  pub turns : made ≡ Done → TakesTurnAt (raised ready, before.1) (without_lent asked) answer filled (between, after.1)
+  pub turns : made ≡ Done → TakesTurnAt (closed ready, before.1) (without_lent asked) answer filled (between, after.1)
   pub dropped : made ≡ Done → after.0 ≡ blocks_dropped between asked.blocks
   pub refused : made ≢ Done → (answer ≡ made) × ((filled ≡ asked) × (after ≡ (ready, before.1)))
 

@@ -8,7 +8,7 @@ ghost use Rattle.uda_port.specs.BlockUse.{blocks_of};
 ghost use Rattle.uda_bus.specs.Turns.{stored_ranges, IsBegun};
 ghost use Rattle.uda_c.specs.declared.call_status.CallStatus.TheVariants.{Done, RanTurn};
 ghost use Rattle.uda_c.specs.BlockRange.{NO_BLOCKS, range_reported};
-ghost use Rattle.uda_c.specs.Steps.{emptied, step_code};
+ghost use Rattle.uda_c.specs.Steps.{emptied, opened, step_code};
 ghost use Rattle.uda_c.specs.TurnUse.{missing_of};
 ghost use Rattle.uda_c.specs.declared.turn_use.Step.TheVariants.{Filled};
 ghost use Rattle.uda_c.specs.RunsToBlocks.{RunsToBlocks, RunsOver, ResumesRun, TurnsToBlocks, TakesUnblockedTurn};
@@ -64,7 +64,7 @@ impl Controller {
             (record { machine = (self.new, memory.new); window = window.new; turn = turn.new }) }
     {
         if turn.blocks.count == 0 {
-            self.raise();
+            self.close();
             self.run_on(memory, bus, window, turn, CallStatus::Done)
         } else {
             self.resume(memory, bus, window, turn)
@@ -134,10 +134,10 @@ impl Controller {
     // Tells in the struct the turn before which a run stops, its blocks, and how many turns are left.
     fn stop(&mut self, turn: &mut TurnUse, next: &BusTurn, blocks: BlockRange, left: u32)
         requires place { next.now.place < PENDING_LIMIT }
-        ensures number { self.new ≡ record self.old { number = turn.old.controller } }
+        ensures opened { self.new ≡ opened self.old turn.old }
         ensures missing { missing_of turn.new.missing ≡ next.now.missing }
         ensures turn { turn.new ≡ record turn.old {
-          count = self.old.count;
+          count = (opened self.old turn.old).count;
           step = step_code Filled;
           place = next.now.place;
           missing = turn.new.missing;
@@ -147,7 +147,7 @@ impl Controller {
           turns = left;
         } }
     {
-        self.number = turn.controller;
+        self.open_turn(turn);
         turn.forget_lent();
         turn.count = self.count;
         turn.step = Step::Filled.code();

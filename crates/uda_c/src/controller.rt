@@ -4,7 +4,7 @@ ghost use Rattle.uda_image.specs.Limits.{store_limit};
 ghost use Rattle.uda_mem.specs.Slices.{IsMemory};
 ghost use Rattle.uda_c.specs.declared.call_status.CallStatus.TheVariants.{RanTurn, Done, NoMemory, BadLength, OtherKind, Stale};
 ghost use Rattle.uda_c.specs.Controllers.{controller_at_start, refusal_of_profile, SetsType, Attaches, Detaches, TurnsWhereMemory};
-ghost use Rattle.uda_c.specs.Controllers.{raised, FailsAt, controller_failing, is_called_at, port_put_back, TakesTurn, memory_refusal, IsValidPort};
+ghost use Rattle.uda_c.specs.Controllers.{closed, FailsAt, controller_failing, is_called_at, port_put_back, TakesTurn, memory_refusal, IsValidPort};
 ghost use Rattle.uda_c.specs.Saving.{Saves, RestoreOutcome, controller_saved, failing_call_of};
 ghost use Rattle.uda_c.specs.Saving.{controller_failing_at};
 ghost use Rattle.uda_port.specs.Port.{port_restarted, port_after_ip_read, read_only_at};
@@ -17,7 +17,7 @@ ghost use Rattle.uda_c.specs.Slots.{empty_slot, is_empty};
 ghost use Rattle.uda_exec.specs.Drives.{drive_state};
 ghost use Rattle.uda_port.specs.MemoryUse.{IsPlace};
 ghost use Rattle.uda_c.specs.TurnUse.{TakesTurnAt, WritesSaAt};
-ghost use Rattle.uda_c.specs.Steps.{BeginsTurn, turn_begun, GetsBody, IsFilled, IsRefused, TurnsAt, TurnsWithBlocks, is_current, is_short};
+ghost use Rattle.uda_c.specs.Steps.{BeginsTurn, opened, turn_begun, GetsBody, IsFilled, IsRefused, TurnsAt, TurnsWithBlocks, is_current, is_short};
 ghost use Rattle.uda_c.specs.Runs.{TakesTurns, RunsWhereMemory, does_nothing, UnlessCalled};
 ghost use Rattle.uda_c.specs.Maps.{IsBusOf, map_answer, OverMap, TakesTurnThroughMap, TakesTurnsThroughMap, WritesSaOver};
 
@@ -49,10 +49,12 @@ pub struct Controller {
     pub last: Option<Trace>,
     // How many units have an image that C reads and writes by calls of its own.
     pub(crate) called: u8,
-    // How many calls have changed it, modulo 2^64.
+    // Whether the struct of the turn that was begun last is of its present turn.
+    current: bool,
+    // How many turns were begun by steps, modulo 2^64.
     pub(crate) count: u64,
-    // The number that C gave it when it began the steps of a turn last.
-    pub(crate) number: u64,
+    // The number that C gave it when it began the last of them.
+    number: u64,
     // The window of the last call over a map, which the next one uses again.
     window: Option<Window>,
     pub(crate) alloc: Global,
@@ -70,6 +72,7 @@ impl Model for Controller {
       port = c.port;
       last = c.last;
       called = nat_lt 0 c.called;
+      current = c.current;
       count = c.count;
       number = c.number;
     } };
@@ -97,6 +100,7 @@ impl Controller {
                 port,
                 last: None,
                 called: 0,
+                current: false,
                 count: 0,
                 number: 0,
                 window: None,
@@ -113,11 +117,20 @@ impl Controller {
         self.port.keep();
     }
 
-    /// Counts a call that changes the controller.
-    pub fn raise(&mut self)
-        ensures raised { self.new ≡ raised self.old }
+    /// Notes a call that changes the controller: no struct is of its present turn.
+    pub fn close(&mut self)
+        ensures closed { self.new ≡ closed self.old }
     {
+        self.current = false;
+    }
+
+    /// Begins a turn of this struct, which is of the present turn then.
+    pub(crate) fn open_turn(&mut self, turn: &TurnUse)
+        ensures opened { self.new ≡ opened self.old turn.now }
+    {
+        self.current = true;
         self.count = self.count.wrapping_add(1);
+        self.number = turn.controller;
     }
 
     /// Writes IP for the guest.
@@ -437,7 +450,7 @@ impl Controller {
         match refusal_of(memory) {
             Some(refusal) => refusal,
             None => {
-                self.number = turn.controller;
+                self.open_turn(turn);
                 self.begin_turn(memory, turn);
                 CallStatus::Done
             }
@@ -522,7 +535,9 @@ impl Controller {
     fn is_current(&self, step: Step, turn: &TurnUse) -> bool
         ensures { result ≡ is_current step self.now turn.now }
     {
-        turn.controller == self.number && (turn.count == self.count && turn.step == step.code())
+        self.current
+            && (turn.controller == self.number
+                && (turn.count == self.count && turn.step == step.code()))
     }
 
     /// Runs one turn of the port over a window into the guest's memory, and fills in what it wrote. The blocks that C
@@ -543,7 +558,7 @@ impl Controller {
     {
         match self.make_ready(turn) {
             CallStatus::Done => {
-                self.raise();
+                self.close();
                 let answer = self.take_turn_at(memory, turn);
                 self.drop_blocks(turn.blocks);
                 answer

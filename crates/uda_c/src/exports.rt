@@ -8,7 +8,7 @@ ghost use Rattle.uda_c.specs.Choices.{bus_of};
 ghost use Rattle.uda_packet.specs.DriveTypes.{type_numbered};
 ghost use Rattle.uda_c.specs.declared.call_status.CallStatus.{CallStatus};
 ghost use Rattle.uda_c.specs.declared.call_status.CallStatus.TheVariants.{Done, NoController};
-ghost use Rattle.uda_c.specs.Controllers.{OnHandle, OnRaised, AreValid, HoldsValid, MakesNew, MakesNumbered, MakesAs, SetsType, refusal_of_new, profile_of, is_read_only, Frees, GivesBack};
+ghost use Rattle.uda_c.specs.Controllers.{OnHandle, OnClosed, AreValid, HoldsValid, MakesNew, MakesNumbered, MakesAs, SetsType, refusal_of_new, profile_of, is_read_only, Frees, GivesBack};
 ghost use Rattle.uda_c.specs.Controllers.{Attaches, Detaches, HasImage, HadBytes, WritesSa};
 ghost use Rattle.uda_c.specs.Controllers.{FailsAt, TurnsWhereMemory, TakesInterrupt, SetsProtection};
 ghost use Rattle.uda_port.specs.StartupUse.{range_zeroed};
@@ -87,7 +87,7 @@ pub extern "C" fn uda50_new_as(alloc: Global, handle: &mut Handle, bus: u32, fir
 /// Sets the drive type of a unit without an image.
 #[unsafe(no_mangle)]
 pub extern "C" fn uda50_set_type(handle: &mut Handle, unit: u32, drive_type: u32) -> u32
-    ensures sets { OnRaised handle.old.value handle.new.value (result ≡ status_code NoController)
+    ensures sets { OnClosed handle.old.value handle.new.value (result ≡ status_code NoController)
         (λ old new. (answer : CallStatus) × (result ≡ status_code answer)
         × SetsType old unit (type_numbered drive_type) answer new) }
     ensures valid { AreValid handle.old.value handle.new.value }
@@ -95,7 +95,7 @@ pub extern "C" fn uda50_set_type(handle: &mut Handle, unit: u32, drive_type: u32
     match handle.get() {
         Some(controller) => {
             controller.keep();
-            controller.raise();
+            controller.close();
             let answer = controller
                 .set_type(unit, DriveType::of_number(drive_type))
                 .code();
@@ -131,7 +131,7 @@ pub extern "C" fn uda50_attach(
     image: &mut Slot,
     write_protected: bool,
 ) -> u32
-    ensures attaches { OnRaised handle.old.value handle.new.value
+    ensures attaches { OnClosed handle.old.value handle.new.value
         ((result ≡ status_code NoController) × (image.new ≡ image.old))
         (λ old new. (answer : CallStatus) × (result ≡ status_code answer)
         × Attaches (old, image.old) unit write_protected answer (new, image.new)) }
@@ -145,7 +145,7 @@ pub extern "C" fn uda50_attach(
     match handle.get() {
         Some(controller) => {
             controller.keep();
-            controller.raise();
+            controller.close();
             let answer = controller.attach(unit, image, write_protected);
             controller.keep();
             answer.code()
@@ -157,7 +157,7 @@ pub extern "C" fn uda50_attach(
 /// Detaches the image of a unit, and puts its bytes into C's empty struct, as the commands left them.
 #[unsafe(no_mangle)]
 pub extern "C" fn uda50_detach(handle: &mut Handle, unit: u32, image: &mut Slot) -> u32
-    ensures detaches { OnRaised handle.old.value handle.new.value
+    ensures detaches { OnClosed handle.old.value handle.new.value
         ((result ≡ status_code NoController) × (image.new ≡ image.old))
         (λ old new. (answer : CallStatus) × (result ≡ status_code answer)
         × Detaches (old, image.old) unit answer (new, image.new)) }
@@ -167,7 +167,7 @@ pub extern "C" fn uda50_detach(handle: &mut Handle, unit: u32, image: &mut Slot)
     match handle.get() {
         Some(controller) => {
             controller.keep();
-            controller.raise();
+            controller.close();
             let answer = controller.detach(unit, image);
             controller.keep();
             answer.code()
@@ -179,7 +179,7 @@ pub extern "C" fn uda50_detach(handle: &mut Handle, unit: u32, image: &mut Slot)
 /// Moves the write-protect button of a unit's drive, while an image is attached.
 #[unsafe(no_mangle)]
 pub extern "C" fn uda50_set_protected(handle: &mut Handle, unit: u32, write_protected: bool) -> u32
-    ensures protects { OnRaised handle.old.value handle.new.value (result ≡ status_code NoController)
+    ensures protects { OnClosed handle.old.value handle.new.value (result ≡ status_code NoController)
         (λ old new. (answer : CallStatus) × (result ≡ status_code answer)
         × SetsProtection old unit write_protected answer new) }
     ensures valid { AreValid handle.old.value handle.new.value }
@@ -187,7 +187,7 @@ pub extern "C" fn uda50_set_protected(handle: &mut Handle, unit: u32, write_prot
     match handle.get() {
         Some(controller) => {
             controller.keep();
-            controller.raise();
+            controller.close();
             let answer = controller.set_protected(unit, write_protected).code();
             controller.keep();
             answer
@@ -199,7 +199,7 @@ pub extern "C" fn uda50_set_protected(handle: &mut Handle, unit: u32, write_prot
 /// Makes one block call of a unit's image fail, counted from now on.
 #[unsafe(no_mangle)]
 pub extern "C" fn uda50_inject_failure(handle: &mut Handle, unit: u32, call: u32) -> u32
-    ensures fails { OnRaised handle.old.value handle.new.value (result ≡ status_code NoController)
+    ensures fails { OnClosed handle.old.value handle.new.value (result ≡ status_code NoController)
         (λ old new. (answer : CallStatus) × (result ≡ status_code answer)
         × FailsAt old unit (Some call) answer new) }
     ensures valid { AreValid handle.old.value handle.new.value }
@@ -207,7 +207,7 @@ pub extern "C" fn uda50_inject_failure(handle: &mut Handle, unit: u32, call: u32
     match handle.get() {
         Some(controller) => {
             controller.keep();
-            controller.raise();
+            controller.close();
             let answer = controller.set_failing_call(unit, Some(call)).code();
             controller.keep();
             answer
@@ -237,7 +237,7 @@ pub extern "C" fn uda50_save(handle: &mut Handle, state: &mut [u8]) -> u32
 /// Continues from saved bytes, over the images that are attached.
 #[unsafe(no_mangle)]
 pub extern "C" fn uda50_restore(handle: &mut Handle, state: &[u8]) -> u32
-    ensures restores { OnRaised handle.old.value handle.new.value (result ≡ status_code NoController)
+    ensures restores { OnClosed handle.old.value handle.new.value (result ≡ status_code NoController)
         (λ old new. (answer : CallStatus) × (result ≡ status_code answer)
         × Restores old state.now answer new) }
     ensures valid { AreValid handle.old.value handle.new.value }
@@ -245,7 +245,7 @@ pub extern "C" fn uda50_restore(handle: &mut Handle, state: &[u8]) -> u32
     match handle.get() {
         Some(controller) => {
             controller.keep();
-            controller.raise();
+            controller.close();
             let answer = restore_status(controller.restore(state)).code();
             controller.keep();
             answer
@@ -257,13 +257,13 @@ pub extern "C" fn uda50_restore(handle: &mut Handle, state: &[u8]) -> u32
 /// Writes IP for the guest.
 #[unsafe(no_mangle)]
 pub extern "C" fn uda50_write_ip(handle: &mut Handle, word: u16)
-    ensures restarts { OnRaised handle.old.value handle.new.value Unit
+    ensures restarts { OnClosed handle.old.value handle.new.value Unit
         (λ old new. new ≡ record old { port = port_restarted old.port }) }
     ensures valid { AreValid handle.old.value handle.new.value }
 {
     if let Some(controller) = handle.get() {
         controller.keep();
-        controller.raise();
+        controller.close();
         controller.write_ip(word);
         controller.keep();
     }
@@ -273,14 +273,14 @@ pub extern "C" fn uda50_write_ip(handle: &mut Handle, word: u16)
 #[unsafe(no_mangle)]
 pub extern "C" fn uda50_read_ip(handle: &mut Handle) -> u16
     ensures reads_zero { result ≡ 0 }
-    ensures starts_polling { OnRaised handle.old.value handle.new.value Unit
+    ensures starts_polling { OnClosed handle.old.value handle.new.value Unit
         (λ old new. new ≡ record old { port = port_after_ip_read old.port.phase old.port }) }
     ensures valid { AreValid handle.old.value handle.new.value }
 {
     match handle.get() {
         Some(controller) => {
             controller.keep();
-            controller.raise();
+            controller.close();
             let answer = controller.read_ip();
             controller.keep();
             answer
@@ -292,7 +292,7 @@ pub extern "C" fn uda50_read_ip(handle: &mut Handle) -> u16
 /// Writes SA for the guest.
 #[unsafe(no_mangle)]
 pub extern "C" fn uda50_write_sa(handle: &mut Handle, word: u16, memory: &mut [u8]) -> u32
-    ensures effect { OnRaised handle.old.value handle.new.value
+    ensures effect { OnClosed handle.old.value handle.new.value
         ((result ≡ status_code NoController) × (memory.new ≡ memory.old))
         (λ old new. (answer : CallStatus) × (result ≡ status_code answer)
         × UnlessCalled (old, memory.old) answer (new, memory.new)
@@ -302,7 +302,7 @@ pub extern "C" fn uda50_write_sa(handle: &mut Handle, word: u16, memory: &mut [u
     match handle.get() {
         Some(controller) => {
             controller.keep();
-            controller.raise();
+            controller.close();
             let answer = controller.write_sa(word, memory).code();
             controller.keep();
             answer
@@ -332,7 +332,7 @@ pub extern "C" fn uda50_read_sa(handle: &mut Handle) -> u16
 /// Runs one turn of the port in the guest's memory.
 #[unsafe(no_mangle)]
 pub extern "C" fn uda50_turn(handle: &mut Handle, memory: &mut [u8]) -> u32
-    ensures effect { OnRaised handle.old.value handle.new.value
+    ensures effect { OnClosed handle.old.value handle.new.value
         ((result ≡ status_code NoController) × (memory.new ≡ memory.old))
         (λ old new. (answer : CallStatus) × (result ≡ status_code answer)
         × UnlessCalled (old, memory.old) answer (new, memory.new)
@@ -342,7 +342,7 @@ pub extern "C" fn uda50_turn(handle: &mut Handle, memory: &mut [u8]) -> u32
     match handle.get() {
         Some(controller) => {
             controller.keep();
-            controller.raise();
+            controller.close();
             let answer = controller.turn(memory).code();
             controller.keep();
             answer
@@ -354,7 +354,7 @@ pub extern "C" fn uda50_turn(handle: &mut Handle, memory: &mut [u8]) -> u32
 /// Takes the pending interrupt request, if there is one.
 #[unsafe(no_mangle)]
 pub extern "C" fn uda50_take_interrupt(handle: &mut Handle, vector: &mut u16) -> bool
-    ensures takes { OnRaised handle.old.value handle.new.value
+    ensures takes { OnClosed handle.old.value handle.new.value
         ((result ≡ false) × (vector.new ≡ vector.old))
         (λ old new. TakesInterrupt old vector.old result new vector.new) }
     ensures valid { AreValid handle.old.value handle.new.value }
@@ -363,7 +363,7 @@ pub extern "C" fn uda50_take_interrupt(handle: &mut Handle, vector: &mut u16) ->
         return false;
     };
     controller.keep();
-    controller.raise();
+    controller.close();
     let request = controller.take_interrupt();
     controller.keep();
     match request {
@@ -378,7 +378,7 @@ pub extern "C" fn uda50_take_interrupt(handle: &mut Handle, vector: &mut u16) ->
 /// Runs up to `turns` turns of the port, and stops after the first that does nothing.
 #[unsafe(no_mangle)]
 pub extern "C" fn uda50_run(handle: &mut Handle, turns: u32, memory: &mut [u8]) -> u32
-    ensures runs { OnRaised handle.old.value handle.new.value
+    ensures runs { OnClosed handle.old.value handle.new.value
         ((result ≡ status_code NoController) × (memory.new ≡ memory.old))
         (λ old new. (answer : CallStatus) × (result ≡ status_code answer)
         × UnlessCalled (old, memory.old) answer (new, memory.new)
@@ -388,7 +388,7 @@ pub extern "C" fn uda50_run(handle: &mut Handle, turns: u32, memory: &mut [u8]) 
     match handle.get() {
         Some(controller) => {
             controller.keep();
-            controller.raise();
+            controller.close();
             let answer = controller.run(turns, memory).code();
             controller.keep();
             answer
@@ -494,7 +494,7 @@ pub extern "C" fn uda50_write_sa_at(
     missing: bool,
     area: &mut ByteRange,
 ) -> u32
-    ensures effect { OnRaised handle.old.value handle.new.value
+    ensures effect { OnClosed handle.old.value handle.new.value
         ((result ≡ status_code NoController) × ((window.new ≡ window.old) × (area.new ≡ area.old)))
         (λ old new. (result ≡ status_code Done)
         × WritesSaAt missing (old, window.old) word area.new (new, window.new)) }
@@ -503,7 +503,7 @@ pub extern "C" fn uda50_write_sa_at(
     match handle.get() {
         Some(controller) => {
             controller.keep();
-            controller.raise();
+            controller.close();
             *area = controller.write_sa_at(word, window, missing);
             controller.keep();
             CallStatus::Done.code()
@@ -520,7 +520,7 @@ pub extern "C" fn uda50_run_mapped(
     memory: &mut [u8],
     map: &MapRegisters<'_>,
 ) -> u32
-    ensures runs { OnRaised handle.old.value handle.new.value
+    ensures runs { OnClosed handle.old.value handle.new.value
         ((result ≡ status_code NoController) × (memory.new ≡ memory.old))
         (λ old new. (answer : CallStatus) × (result ≡ status_code answer)
         × UnlessCalled (old, memory.old) answer (new, memory.new)
@@ -531,7 +531,7 @@ pub extern "C" fn uda50_run_mapped(
     match handle.get() {
         Some(controller) => {
             controller.keep();
-            controller.raise();
+            controller.close();
             let answer = controller.run_mapped(turns, memory, map).code();
             controller.keep();
             answer
@@ -577,7 +577,7 @@ pub extern "C" fn uda50_write_sa_mapped(
     memory: &mut [u8],
     map: &MapRegisters<'_>,
 ) -> u32
-    ensures effect { OnRaised handle.old.value handle.new.value
+    ensures effect { OnClosed handle.old.value handle.new.value
         ((result ≡ status_code NoController) × (memory.new ≡ memory.old))
         (λ old new. (answer : CallStatus) × (result ≡ status_code answer)
         × UnlessCalled (old, memory.old) answer (new, memory.new)
@@ -588,7 +588,7 @@ pub extern "C" fn uda50_write_sa_mapped(
     match handle.get() {
         Some(controller) => {
             controller.keep();
-            controller.raise();
+            controller.close();
             let answer = controller.write_sa_mapped(word, memory, map).code();
             controller.keep();
             answer
@@ -605,7 +605,7 @@ pub extern "C" fn uda50_attach_called(
     blocks: u64,
     write_protected: bool,
 ) -> u32
-    ensures attaches { OnRaised handle.old.value handle.new.value (result ≡ status_code NoController)
+    ensures attaches { OnClosed handle.old.value handle.new.value (result ≡ status_code NoController)
         (λ old new. (answer : CallStatus) × (result ≡ status_code answer)
         × AttachesCalled old (unit, (blocks, write_protected)) answer new) }
     ensures valid { AreValid handle.old.value handle.new.value }
@@ -613,7 +613,7 @@ pub extern "C" fn uda50_attach_called(
     match handle.get() {
         Some(controller) => {
             controller.keep();
-            controller.raise();
+            controller.close();
             let answer = controller
                 .attach_called(unit, blocks, write_protected)
                 .code();

@@ -1,5 +1,5 @@
 use Rattle.uda_c.specs.declared.slot.Slot.{Slot}
-use Rattle.std.proofs.Common.{ap, refl, sym, subst, ◌∙◌, None}
+use Rattle.std.proofs.Common.{ap, refl, sym, subst, nat_lt, ◌∙◌, None}
 use Rattle.uda_exec.specs.Drives.{drive_state}
 use Rattle.uda_c.specs.declared.call_status.CallStatus.TheVariants.{Done, NotEmpty}
 use Rattle.uda_c.specs.contracts.controller.Controller.{the_view}
@@ -37,7 +37,7 @@ pub returns : goal.returns
 returns c =
     let was : ControllerState = the_view c.self.inside in
     let port = c.set_drive.new.self in
-    let new : ControllerState = record was { port = port; called = c.any_called-self-inside.result } in
+    let new : ControllerState = record was { port = port; called = nat_lt 0 c.called_units-self-inside.result } in
     let after = c.match-set_drive.image in
     let look = sym c.in-Some.ensures.info in
     elim c.match-set_drive.branch [
@@ -45,10 +45,10 @@ returns c =
         detaches = subst (λ (old : ControllerState).
             Detaches (old, c.args.image.now) c.args.unit Done (new, after)) c.self.view_is
             (detaches was c.args.unit c.in-Some._look c.args.image.now after
-            (drive_state unit_state w.in-Some-set_drive.drive) port c.any_called-self-inside.result c.if-unit-gt3.false look
+            (drive_state unit_state w.in-Some-set_drive.drive) port (nat_lt 0 c.called_units-self-inside.result) c.if-unit-gt3.false look
             c.in_default-take.ensures.took.0 w.in-Some-set_drive.ensures.returned_drive
             (ap (λ (s : Slot). s.held) w.image-is ∙ w.put_lent.ensures.bytes) c.set_drive.ensures.set
-            c.any_called-self-inside.ensures.called);
+            c.called_units-self-inside.ensures.called);
       }
       | in_default-set_drive w ↦ absurd (is_handed was.port.exec.units c.args.unit c.in-Some._look look
           w.in_default-set_drive.ensures.returned_drive)

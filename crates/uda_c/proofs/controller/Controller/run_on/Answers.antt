@@ -4,6 +4,7 @@ use Rattle.uda_c.specs.declared.call_status.CallStatus.TheVariants.{RanTurn}
 use Rattle.uda_c.specs.declared.turn_use.TurnUse.{TurnUse}
 use Rattle.uda_c.specs.ControllerState.{ControllerState}
 use Rattle.uda_c.specs.RunsToBlocks.{TurnsToBlocks}
+use Rattle.uda_c.specs.Steps.{opened}
 use Rattle.uda_c.proofs.BusRuns.{run_stops, run_on_over, run_over_bus, stops_at, stopped}
 use Rattle.uda_c.proofs.controller.Controller.run_on.Goals as goal
 
@@ -17,10 +18,9 @@ returns-then-blocks-ne0 c =
     c.self.view_is next.ensures.begun in
     let stops = stops_at bus (asked.turns - loop.taken) (length loop.window) loop.self c.stop.new.self loop.memory next.new.window asked
     c.stop.new.turn next.result c.blocks_used-blocks.result loop.invariant.0 begun c.blocks_used-blocks.ensures.blocks
-    c.if-blocks-ne0.true (c.stop.ensures.number ∙ ap (λ (t : TurnUse). record loop.self { number = t.controller })
-    loop.invariant.1) c.stop.ensures.missing
+    c.if-blocks-ne0.true (c.stop.ensures.opened ∙ ap (opened loop.self) loop.invariant.1) c.stop.ensures.missing
     (c.stop.ensures.turn
-    ∙ ap (λ (t : TurnUse). stopped t loop.self.count (asked.turns - loop.taken) c.stop.new.turn.missing next.result.place
+    ∙ ap (λ (t : TurnUse). stopped t (opened loop.self t).count (asked.turns - loop.taken) c.stop.new.turn.missing next.result.place
     c.blocks_used-blocks.result) loop.invariant.1) in
     record {
       runs = loop.invariant.2 _ (run_stops bus asked.turns loop.taken loop.answer (loop.self, loop.memory) asked

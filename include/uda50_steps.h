@@ -29,6 +29,7 @@
    A step is refused with UDA50_STALE, and nothing changes, if it is of another controller, of an earlier turn, or out
    of order:
      - The struct has another `controller` than the one with which this controller began a turn last.
+     - Another turn was begun since the struct's turn began.
      - The controller was changed since the struct's turn began. These calls change it, also when they fail: turns,
        writes and reads of IP, writes of SA, uda50_take_interrupt, uda50_attach, uda50_attach_called, uda50_detach,
        uda50_set_type, uda50_set_protected, uda50_restore and uda50_inject_failure. uda50_turn_at does if it takes a turn,
@@ -36,8 +37,8 @@
      - uda50_get_body doesn't come right after uda50_get_descriptors. Or another step comes neither after uda50_get_body
        nor after a run that stopped at blocks. Such steps are uda50_get_written, uda50_turn_at, and uda50_run_to_blocks
        with a struct that has blocks.
-   Then begin the turn anew. A struct of another controller isn't noticed if both have the same number, and as many calls
-   have changed them.
+   Then begin the turn anew. A struct of another controller isn't noticed if both have the same number and have begun as
+   many turns by steps. A controller that was freed, and the next one of its handle, are two controllers.
 
    Between the first step of a turn and the last, and while a run waits for blocks:
      - The guest doesn't run, and no device writes to its memory: the turn goes by what steps 1 and 2 have read. The last
@@ -95,7 +96,7 @@ typedef struct {
 typedef struct {
     size_t size;                /* sizeof(uda50_turn_use): later members go last */
     uint64_t controller;        /* a number of its own for each controller, such as the address of its handle */
-    uint64_t count;             /* the library's: how many calls had changed the controller when the turn began */
+    uint64_t count;             /* the library's: how many turns the controller has begun by these calls, with this one */
     uint32_t step;              /* the library's: the step that was done last */
     uda50_range descriptors[4]; /* the next one of the command ring, the one before it; the same of the response ring;
                                    empty for a ring at which the turn doesn't look */

@@ -21,7 +21,7 @@ use crate::unit_image::UnitImage;
 use uda_called::BorrowedBytes;
 use uda_exec::BlockAccess;
 use uda_image::Drive;
-use uda_port::BusTurn;
+use uda_port::{BusTurn, Plan};
 
 impl Controller {
     /// Attaches an image of `blocks` blocks that C reads and writes by calls of its own.
@@ -53,9 +53,9 @@ impl Controller {
         ensures blocks { result
             ≡ range_reported self.now (blocks_of bus.now.missing self.now.port memory.now bus.now.place) }
     {
-        if self.port.pending() == 0 {
+        let Plan::ToExecute = bus.plan else {
             return BlockRange::NONE;
-        }
+        };
         self.keep();
         if !any_called(&self.port) {
             return BlockRange::NONE;

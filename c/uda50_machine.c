@@ -140,7 +140,7 @@ static uint32_t sum_of(const view *it, const uda50_turn_use *turn)
 #endif
 
 /* Notes what a turn has read into the window, in a range that the turn fills later. Does nothing without UDA50_DEBUG.
-   */
+   A run over map registers doesn't tell what its turn has read, so of that turn it notes nothing. */
 static void note_window(const view *it, uda50_turn_use *turn)
 {
 #ifdef UDA50_DEBUG
@@ -310,7 +310,7 @@ static uint32_t write_at_once(uda50 *handle, uint16_t word, const uda50_machine 
                           : uda50_write_sa_mapped(handle, word, m->memory, m->length, m->map);
 }
 
-/* Runs turns over map registers up to the next that uses blocks of a called image. */
+/* Runs turns over map registers, up to the next that uses blocks of a called image. */
 static uint32_t run_to_blocks(const view *it, uda50_turn_use *turn)
 {
     const uda50_machine *m = it->machine;
@@ -328,7 +328,7 @@ static uint32_t resume_run(const view *it, uda50_turn_use *turn)
     return run_to_blocks(it, turn);
 }
 
-/* Runs the turns over map registers. */
+/* Runs the turns over map registers, and moves the blocks of called images between them. */
 static uint32_t run_over_map(const view *it, uda50_turn_use *turn)
 {
     uint32_t status = run_to_blocks(it, turn);
@@ -338,7 +338,7 @@ static uint32_t run_over_map(const view *it, uda50_turn_use *turn)
     return status;
 }
 
-/* Runs the turns one by one. */
+/* Runs the turns one by one, each by single steps. */
 static uint32_t run_by_turns(const view *it, uda50_turn_use *turn)
 {
     uint32_t status = UDA50_OK;
@@ -353,7 +353,7 @@ static uint32_t run_by_turns(const view *it, uda50_turn_use *turn)
     return status;
 }
 
-/* Runs the turns by single steps. */
+/* Runs the turns by the calls of uda50_steps.h. */
 static uint32_t run_by_steps(uda50 *handle, uint32_t turns, const uda50_machine *machine)
 {
     uda50_turn_use turn = {.size = sizeof turn, .controller = (uintptr_t)handle, .turns = turns};
@@ -377,6 +377,7 @@ uint32_t uda50_machine_turn(uda50 *handle, const uda50_machine *machine)
     return uda50_machine_run(handle, 1, machine);
 }
 
+/* Writes a word to SA by the calls of uda50_steps.h. */
 static uint32_t write_by_steps(uda50 *handle, uint16_t word, const uda50_machine *machine)
 {
     view it;

@@ -139,8 +139,7 @@ static uint32_t sum_of(const view *it, const uda50_turn_use *turn)
 }
 #endif
 
-/* Notes what a turn has read into the window, in a range that the turn fills later. Does nothing without UDA50_DEBUG.
-   A run over map registers doesn't tell what its turn has read, so of that turn it notes nothing. */
+/* Notes what a turn has read into the window, in a range that the turn fills later. Does nothing without UDA50_DEBUG. */
 static void note_window(const view *it, uda50_turn_use *turn)
 {
 #ifdef UDA50_DEBUG
@@ -148,6 +147,15 @@ static void note_window(const view *it, uda50_turn_use *turn)
 #else
     (void)it, (void)turn;
 #endif
+}
+
+/* Notes the window of a run over map registers, which doesn't tell what its turn has read: all of it. */
+static void note_run(const view *it, uda50_turn_use *turn)
+{
+#ifdef UDA50_DEBUG
+    turn->body = (uda50_range){0, (uint32_t)it->length};
+#endif
+    note_window(it, turn);
 }
 
 /* Fails if the window has changed since it was noted. Does nothing without UDA50_DEBUG. */
@@ -317,7 +325,7 @@ static uint32_t run_to_blocks(const view *it, uda50_turn_use *turn)
     uint32_t status = uda50_run_to_blocks(it->handle, m->memory, m->length, m->map, it->bytes, it->length, turn);
 
     if (status == UDA50_NEEDS_BLOCKS)
-        note_window(it, turn);
+        note_run(it, turn);
     return status;
 }
 

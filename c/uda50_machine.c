@@ -223,37 +223,28 @@ static bool can_move(const view *it, const uda50_blocks *blocks)
     return image != NULL && (blocks->use == UDA50_WRITES ? image->write != NULL : image->read != NULL);
 }
 
-/* Reads or writes the next piece of `wanted` blocks. Its bytes are at `piece`. Stores in *moved how many could be
-   moved. */
-static uint32_t move_piece(const view *it, uda50_turn_use *turn, uint8_t *piece, uint32_t wanted, uint32_t *moved)
-{
-    const uda50_called *image = it->machine->images[turn->blocks.unit];
-    uint32_t lbn = turn->blocks.first + turn->ready, status;
-
-    if (turn->blocks.use != UDA50_WRITES) {
-        *moved = image->read(image->context, lbn, wanted, piece);
-        return UDA50_OK;
-    }
-    status = uda50_get_written(it->handle, it->bytes, it->length, turn, turn->ready, piece, wanted * BLOCK);
-    if (status == UDA50_OK)
-        *moved = image->write(image->context, lbn, wanted, piece);
-    return status;
-}
-
-/* Reads or writes the blocks of the turn, up to the first that fails. The bytes of a Read are at `bytes`, one block
-   after the other. Those of another command are there piece by piece. */
+/* Reads or writes the blocks of the turn in pieces, up to the first block that fails. The bytes of a Read are at `bytes`,
+   one block after the other. Those of another command are there piece by piece. */
 static uint32_t move_blocks(const view *it, uda50_turn_use *turn, uint8_t *bytes)
 {
-    bool reads = turn->blocks.use == UDA50_READS;
-    uint32_t wanted, moved = 0, status;
+    const uda50_called *image = it->machine->images[turn->blocks.unit];
+    bool writes = turn->blocks.use == UDA50_WRITES, reads = turn->blocks.use == UDA50_READS;
+    uint32_t lbn, wanted, moved, status = UDA50_OK;
+    uint8_t *piece = bytes;
 
     do {
+        lbn = turn->blocks.first + turn->ready;
         wanted = least(turn->blocks.count - turn->ready, PIECE);
-        status = move_piece(it, turn, reads ? bytes + (size_t)turn->ready * BLOCK : bytes, wanted, &moved);
+        if (writes)
+            status = uda50_get_written(it->handle, it->bytes, it->length, turn, turn->ready, piece, wanted * BLOCK);
         if (status != UDA50_OK)
             return status;
-        turn->ready += least(moved, wanted);
-    } while (moved >= wanted && turn->ready < turn->blocks.count);
+        moved = writes ? image->write(image->context, lbn, wanted, piece) : image->read(image->context, lbn, wanted, piece);
+        moved = least(moved, wanted);
+        turn->ready += moved;
+        if (reads)
+            piece += (size_t)moved * BLOCK;
+    } while (moved == wanted && turn->ready < turn->blocks.count);
     if (reads)
         turn->lent = (uda50_image){bytes, (size_t)turn->ready * BLOCK};
     return UDA50_OK;

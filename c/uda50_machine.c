@@ -139,8 +139,7 @@ static uint32_t sum_of(const view *it, const uda50_turn_use *turn)
 }
 #endif
 
-/* Notes what a turn has read into the window, in a range that the turn fills later. Does nothing without UDA50_DEBUG.
-   */
+/* Notes what a turn has read into the window, in a range that the turn fills later. Does nothing without UDA50_DEBUG. */
 static void note_window(const view *it, uda50_turn_use *turn)
 {
 #ifdef UDA50_DEBUG
@@ -148,6 +147,15 @@ static void note_window(const view *it, uda50_turn_use *turn)
 #else
     (void)it, (void)turn;
 #endif
+}
+
+/* Notes the window of a run over map registers, which doesn't tell what its turn has read: all of it. */
+static void note_run(const view *it, uda50_turn_use *turn)
+{
+#ifdef UDA50_DEBUG
+    turn->body = (uda50_range){0, (uint32_t)it->length};
+#endif
+    note_window(it, turn);
 }
 
 /* Fails if the window has changed since it was noted. Does nothing without UDA50_DEBUG. */
@@ -215,35 +223,28 @@ static bool can_move(const view *it, const uda50_blocks *blocks)
     return image != NULL && (blocks->use == UDA50_WRITES ? image->write != NULL : image->read != NULL);
 }
 
-/* Reads or writes the next piece of `wanted` blocks. Its bytes are at `piece`. Stores in *moved how many could be
-   moved. */
-static uint32_t move_piece(const view *it, uda50_turn_use *turn, uint8_t *piece, uint32_t wanted, uint32_t *moved)
-{
-    const uda50_called *image = it->machine->images[turn->blocks.unit];
-    uint32_t lbn = turn->blocks.first + turn->ready, status = UDA50_OK;
-
-    if (turn->blocks.use == UDA50_WRITES)
-        status = uda50_get_written(it->handle, it->bytes, it->length, turn, turn->ready, piece, wanted * BLOCK);
-    if (status == UDA50_OK)
-        *moved = turn->blocks.use == UDA50_WRITES ? image->write(image->context, lbn, wanted, piece)
-                                                  : image->read(image->context, lbn, wanted, piece);
-    return status;
-}
-
-/* Reads or writes the blocks of the turn, up to the first that fails. The bytes of a Read are at `bytes`, one block
-   after the other. Those of another command are there piece by piece. */
+/* Reads or writes the blocks of the turn in pieces, up to the first block that fails. The bytes of a Read are at `bytes`,
+   one block after the other. Those of another command are there piece by piece. */
 static uint32_t move_blocks(const view *it, uda50_turn_use *turn, uint8_t *bytes)
 {
-    bool reads = turn->blocks.use == UDA50_READS;
-    uint32_t wanted, moved = 0, status;
+    const uda50_called *image = it->machine->images[turn->blocks.unit];
+    bool writes = turn->blocks.use == UDA50_WRITES, reads = turn->blocks.use == UDA50_READS;
+    uint32_t lbn, wanted, moved, status = UDA50_OK;
+    uint8_t *piece = bytes;
 
     do {
+        lbn = turn->blocks.first + turn->ready;
         wanted = least(turn->blocks.count - turn->ready, PIECE);
-        status = move_piece(it, turn, reads ? bytes + (size_t)turn->ready * BLOCK : bytes, wanted, &moved);
+        if (writes)
+            status = uda50_get_written(it->handle, it->bytes, it->length, turn, turn->ready, piece, wanted * BLOCK);
         if (status != UDA50_OK)
             return status;
-        turn->ready += least(moved, wanted);
-    } while (moved >= wanted && turn->ready < turn->blocks.count);
+        moved = writes ? image->write(image->context, lbn, wanted, piece) : image->read(image->context, lbn, wanted, piece);
+        moved = least(moved, wanted);
+        turn->ready += moved;
+        if (reads)
+            piece += (size_t)moved * BLOCK;
+    } while (moved == wanted && turn->ready < turn->blocks.count);
     if (reads)
         turn->lent = (uda50_image){bytes, (size_t)turn->ready * BLOCK};
     return UDA50_OK;
@@ -267,7 +268,6 @@ static uint32_t go_on_with_blocks(const view *it, uda50_turn_use *turn, next_ste
     status = move_blocks(it, turn, bytes);
     if (status == UDA50_OK)
         status = go_on(it, turn);
-    turn->lent = (uda50_image){NULL, 0}; /* also if the turn wasn't taken */
     if (bytes != piece)
         free(bytes);
     return status;
@@ -309,14 +309,14 @@ static uint32_t write_at_once(uda50 *handle, uint16_t word, const uda50_machine 
                           : uda50_write_sa_mapped(handle, word, m->memory, m->length, m->map);
 }
 
-/* Runs turns over map registers up to the next that uses blocks of a called image. */
+/* Runs turns over map registers, up to the next that uses blocks of a called image. */
 static uint32_t run_to_blocks(const view *it, uda50_turn_use *turn)
 {
     const uda50_machine *m = it->machine;
     uint32_t status = uda50_run_to_blocks(it->handle, m->memory, m->length, m->map, it->bytes, it->length, turn);
 
     if (status == UDA50_NEEDS_BLOCKS)
-        note_window(it, turn);
+        note_run(it, turn);
     return status;
 }
 
@@ -327,7 +327,7 @@ static uint32_t resume_run(const view *it, uda50_turn_use *turn)
     return run_to_blocks(it, turn);
 }
 
-/* Runs the turns over map registers. */
+/* Runs the turns over map registers, and moves the blocks of called images between them. */
 static uint32_t run_over_map(const view *it, uda50_turn_use *turn)
 {
     uint32_t status = run_to_blocks(it, turn);
@@ -337,7 +337,7 @@ static uint32_t run_over_map(const view *it, uda50_turn_use *turn)
     return status;
 }
 
-/* Runs the turns one by one. */
+/* Runs the turns one by one, each by single steps. */
 static uint32_t run_by_turns(const view *it, uda50_turn_use *turn)
 {
     uint32_t status = UDA50_OK;
@@ -352,7 +352,7 @@ static uint32_t run_by_turns(const view *it, uda50_turn_use *turn)
     return status;
 }
 
-/* Runs the turns by single steps. */
+/* Runs the turns by the calls of uda50_steps.h. */
 static uint32_t run_by_steps(uda50 *handle, uint32_t turns, const uda50_machine *machine)
 {
     uda50_turn_use turn = {.size = sizeof turn, .controller = (uintptr_t)handle, .turns = turns};
@@ -376,6 +376,7 @@ uint32_t uda50_machine_turn(uda50 *handle, const uda50_machine *machine)
     return uda50_machine_run(handle, 1, machine);
 }
 
+/* Writes a word to SA by the calls of uda50_steps.h. */
 static uint32_t write_by_steps(uda50 *handle, uint16_t word, const uda50_machine *machine)
 {
     view it;

@@ -83,7 +83,7 @@ enum {
                                     has a called image, and the call accepts none */
     UDA50_NOWHERE = 81,          /* an address leads nowhere; all others were copied */
     UDA50_STALE = 82,            /* a step of a turn is of another controller, of an earlier turn, or out of order */
-    UDA50_NEEDS_BLOCKS = 83      /* a run stopped before a turn that uses blocks of a called image */
+    UDA50_NEEDS_BLOCKS = 83      /* uda50_run_to_blocks stopped before a turn that uses blocks of a called image */
 };
 
 /* What a turn did. Each call that takes turns returns it. */
@@ -295,8 +295,8 @@ uint32_t uda50_write_mapped(uint8_t *memory, size_t length, const uda50_map *map
 
 /* A called image has a size and no bytes in memory: the emulator reads and writes its blocks by calls of its own. Such
    images are overlays, compressed files, and files whose blocks may fail. A controller that has one takes its turns and
-   its words for SA by the calls of uda50_machine.h, or by the single steps of uda50_steps.h. uda50_turn, uda50_run,
-   uda50_write_sa and their mapped forms return UDA50_OTHER_KIND. */
+   its words for SA by the calls of uda50_machine.h, or by those of uda50_steps.h. uda50_turn, uda50_run, uda50_write_sa
+   and their mapped forms return UDA50_OTHER_KIND. */
 
 /* Attaches a called image of this many blocks to unit 0 to 3. Otherwise it does what uda50_attach does. Returns UDA50_OK,
    or the first that holds of UDA50_NO_CONTROLLER, UDA50_NO_SUCH_UNIT, UDA50_ALREADY_ATTACHED, UDA50_BAD_LENGTH and

@@ -76,7 +76,7 @@ enum {
    Before a turn that executes a command they read or write the blocks that the command uses of a called image, in pieces of
    up to 32. A block that fails is a drive error: the command ends with status 0x000B and the byte count of the blocks
    before. No block after it is read or written. So each Write is written when its end message is made. These calls wait for
-   the functions. An emulator with asynchronous I/O takes the single steps of uda50_steps.h.
+   the functions. An emulator with asynchronous I/O makes the calls of uda50_steps.h.
 
    Each returns the first that holds of UDA50_BAD_MACHINE, UDA50_NO_CONTROLLER, what uda50_run_mapped returns for a `map`
    that no bus has, UDA50_NO_WINDOW, and what uda50_run returns for a length that no memory has. Then nothing has changed.

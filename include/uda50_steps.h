@@ -1,5 +1,8 @@
 /* uda50_steps.h: the single steps of a turn, for an emulator that does something between them, such as asynchronous
-   I/O. Others use uda50_machine.h, whose uda50_machine.c makes these calls in their order, or the turns of uda50.h.
+   I/O. Others use uda50_machine.h, whose uda50_machine.c makes these calls for them, or the turns of uda50.h.
+
+   Over map registers uda50_run_to_blocks takes whole turns, and the emulator only moves the blocks of called images.
+   Over other memory a turn is taken by steps.
 
    The emulator has a window with as many bytes as the bus has addresses. Memory that is one array is its own window. In
    a uda50_turn_use it sets `size`, and `controller` to a number that none of its other controllers has, such as the
@@ -26,14 +29,18 @@
    A step is refused with UDA50_STALE, and nothing changes, if it is of another controller, of an earlier turn, or out
    of order:
      - The struct has another `controller` than the one with which this controller began a turn last.
+     - Another turn was begun since the struct's turn began.
      - The controller was changed since the struct's turn began. These calls change it, also when they fail: turns,
        writes and reads of IP, writes of SA, uda50_take_interrupt, uda50_attach, uda50_attach_called, uda50_detach,
-       uda50_set_type, uda50_set_protected, uda50_restore and uda50_inject_failure. uda50_turn_at does if it takes a turn.
-     - uda50_get_body doesn't come right after uda50_get_descriptors, or another step doesn't come after uda50_get_body.
-   Then begin the turn anew. A struct of another controller isn't noticed if both have the same number, and as many calls
-   have changed them.
+       uda50_set_type, uda50_set_protected, uda50_restore and uda50_inject_failure. uda50_turn_at does if it takes a turn,
+       and uda50_run_to_blocks unless it is refused.
+     - uda50_get_body doesn't come right after uda50_get_descriptors. Or another step comes neither after uda50_get_body
+       nor after a run that stopped at blocks. Such steps are uda50_get_written, uda50_turn_at, and uda50_run_to_blocks
+       with a struct that has blocks.
+   Then begin the turn anew. A struct of another controller isn't noticed if both have the same number and have begun as
+   many turns by steps. A controller that was freed, and the next one of its handle, are two controllers.
 
-   Between the first step of a turn and the last:
+   Between the first step of a turn and the last, and while a run waits for blocks:
      - The guest doesn't run, and no device writes to its memory: the turn goes by what steps 1 and 2 have read. The last
        step writes only what the turn has written. Of the buffer of a Read that fails it leaves the rest as it is.
      - No other controller uses the window.
@@ -85,11 +92,11 @@ typedef struct {
 
 /* ---- A turn ---- */
 
-/* What the next turn uses. `size`, `controller`, `missing`, `ready` and `lent` are the emulator's to set. */
+/* What the next turn uses. `size`, `controller`, `missing`, `ready`, `lent` and `turns` are the emulator's to set. */
 typedef struct {
     size_t size;                /* sizeof(uda50_turn_use): later members go last */
     uint64_t controller;        /* a number of its own for each controller, such as the address of its handle */
-    uint64_t count;             /* the library's: how many calls had changed the controller when the turn began */
+    uint64_t count;             /* the library's: how many turns the controller has begun by these calls, with this one */
     uint32_t step;              /* the library's: the step that was done last */
     uda50_range descriptors[4]; /* the next one of the command ring, the one before it; the same of the response ring;
                                    empty for a ring at which the turn doesn't look */
@@ -103,12 +110,13 @@ typedef struct {
     uda50_blocks blocks;        /* the blocks that the turn uses of a called image, unless the body is missing */
     uint32_t ready;             /* how many of these, from the first on, the emulator has moved */
     uda50_image lent;           /* the bytes of those blocks, for UDA50_READS; a turn empties it */
-    uint32_t turns;             /* how many turns uda50_run_to_blocks has left */
+    uint32_t turns;             /* for uda50_run_to_blocks: how many turns to take; when it stops at blocks, how many
+                                   are left, with the one before which it stopped */
 } uda50_turn_use;
 
-/* Begins a turn: fills the descriptors of *turn, and sets all else to 0 but `size` and `controller`. Of the window only
-   the length matters. Returns UDA50_OK, or the first that holds of UDA50_NO_CONTROLLER, UDA50_BAD_LENGTH, also for a
-   `size` that is too small, and UDA50_TOO_LARGE. */
+/* Begins a turn: fills the descriptors of *turn, and sets all else to 0 but `size`, `controller` and `turns`. Of the
+   window only the length matters. Returns UDA50_OK, or the first that holds of UDA50_NO_CONTROLLER, UDA50_BAD_LENGTH,
+   also for a `size` that is too small, and UDA50_TOO_LARGE. */
 uint32_t uda50_get_descriptors(uda50 *handle, const uint8_t *window, size_t length, uda50_turn_use *turn);
 
 /* Fills the body, the place and the blocks of *turn. Returns UDA50_OK, or the first that holds of UDA50_NO_CONTROLLER,
@@ -138,19 +146,30 @@ uint32_t uda50_turn_at(uda50 *handle, uint8_t *window, size_t length, uda50_turn
 
 /* ---- Runs over map registers ---- */
 
-/* Runs up to `turns` turns of the struct over `memory`, which the bus reaches through `map`, and stops after one of
-   UDA50_IDLE or UDA50_DEAD. It also stops before each turn that uses blocks of a called image, and returns
-   UDA50_NEEDS_BLOCKS. So it takes the place of all other steps, and the emulator only moves the blocks.
+/* Runs up to `turns` turns of the struct over `memory`, which the bus reaches through `map` and which may have any
+   length. It stops after a turn that is UDA50_IDLE or UDA50_DEAD. It also stops before each turn that uses blocks of a
+   called image, and returns UDA50_NEEDS_BLOCKS. So it takes the place of all other steps except uda50_get_written, and
+   the emulator only moves the blocks. It allocates nothing. The controller may be one without called images.
 
-   The emulator sets the struct to zero but for `size`, `controller` and `turns`. The window has as many bytes as the bus
-   has addresses. After UDA50_NEEDS_BLOCKS the struct is as after uda50_get_body, and `turns` says how many turns are left.
-   The emulator moves the blocks as in step 3 of a turn, and makes the call again with the same struct. That takes the turn
-   by what the window has of it, and goes on. Until then the window is this controller's.
+   A run begins with a struct that is zero except for `size`, `controller` and `turns`. The window has as many bytes as
+   the bus has addresses, and what is in it has no influence.
 
-   Otherwise it returns what the last turn did, or UDA50_IDLE if there was none. Or it returns the first that holds of
-   UDA50_NO_CONTROLLER, UDA50_BAD_LENGTH, also for a `size` that is too small, what uda50_run_mapped returns for a `map`
-   that no bus has, UDA50_BAD_LENGTH for a window that hasn't as many bytes as the bus has addresses, and what
-   uda50_turn_at returns for a struct with blocks. Then that turn isn't taken. */
+   After UDA50_NEEDS_BLOCKS the window has what the turn reads. The struct has the `place`, the `missing` addresses and
+   the `blocks` of the turn, and in `turns` how many turns are left. Its `ready` is 0 and its `lent` empty. It has no
+   descriptors and no body. The emulator moves the blocks as in step 3 of a turn. Then it makes the call again with the
+   same struct, memory, map and window. The library takes that turn as uda50_turn_at does, by what the window has. It
+   copies what the turn has written to the memory, and goes on. Until then the window is this controller's.
+
+   Otherwise it returns what the last turn did, or UDA50_IDLE if there was none. The struct has no blocks then, and may
+   begin another run after `turns` is set again.
+
+   A call is refused with the first that holds of these. Then no turn was taken, and nothing has changed:
+     - UDA50_NO_CONTROLLER.
+     - UDA50_BAD_LENGTH for a `size` that is too small.
+     - What uda50_run_mapped returns for a `map` that no bus has.
+     - UDA50_BAD_LENGTH for a window that hasn't as many bytes as the bus has addresses.
+     - If the struct has blocks, what uda50_turn_at returns. After UDA50_STALE begin another run, with a struct as at
+       first. */
 uint32_t uda50_run_to_blocks(uda50 *handle, uint8_t *memory, size_t length, const uda50_map *map, uint8_t *window,
                              size_t bytes, uda50_turn_use *turn);
 

@@ -1,6 +1,7 @@
 /* steps.c: what may happen between the steps of a turn, and what may not. A step of another controller, of an earlier
    turn or out of order is refused. Blocks that were moved for a dropped command have no effect on a later one. A store
    of the guest into the rest of the buffer of a Read that then fails stays. Two controllers use one window one after the other.
+   A run over map registers stops before the blocks of a command, and goes on with them.
    If c/uda50_machine.c is compiled with UDA50_DEBUG, a window that changes within a turn of a machine is an assertion
    that fails. */
 #define _DEFAULT_SOURCE
@@ -349,6 +350,111 @@ static void one_after_the_other(void)
     }
 }
 
+/* Map registers that lead each bus address to the same one of memory, in pages of 16 bytes. */
+static uint32_t registers[SIZE / 16];
+static const uda50_map map = { .registers = registers, .count = SIZE / 16, .page = 4, .frame = 0xffff, .scale = 4 };
+
+static void set_registers(void)
+{
+    for (uint32_t n = 0; n < SIZE / 16; n++)
+        registers[n] = n;
+}
+
+static uint32_t run_to_blocks(uda50 *it, uda50_turn_use *run)
+{
+    return uda50_run_to_blocks(it, memory, SIZE, &map, window, SIZE, run);
+}
+
+/* Brings unit 0 online, and fetches a command of two blocks. Begins a run of so many turns, which stops before it. */
+static void begin_run(uda50 *it, uint8_t opcode, uint32_t turns, uda50_turn_use *run)
+{
+    uda50_turn_use turn;
+
+    begin(it, opcode, &turn);
+    memset(window, 0xee, sizeof window); /* what is in it has no influence */
+    *run = (uda50_turn_use){ .size = sizeof *run, .controller = (uintptr_t)it, .turns = turns };
+    EXPECT(run_to_blocks(it, run), UDA50_NEEDS_BLOCKS);
+    EXPECT(run->blocks.count, 2);
+    EXPECT(run->blocks.first, 1);
+    EXPECT(run->blocks.unit, 0);
+    EXPECT(run->ready, 0);
+    EXPECT(run->turns, turns);
+    EXPECT(uda50_turn_at(it, window, SIZE, &turn), UDA50_STALE);
+}
+
+/* This call is refused with this status, and changes nothing. */
+static void refused_run(uda50 *it, const uda50_turn_use *run, size_t bytes, uint32_t status)
+{
+    static uint8_t before[UDA50_STATE_LENGTH], after[UDA50_STATE_LENGTH], kept[SIZE];
+    uda50_turn_use given = *run;
+
+    memcpy(kept, memory, SIZE);
+    EXPECT(uda50_save(it, before, sizeof before), UDA50_OK);
+    EXPECT(uda50_run_to_blocks(it, memory, SIZE, &map, window, bytes, &given), status);
+    EXPECT(uda50_save(it, after, sizeof after), UDA50_OK);
+    EXPECT(memcmp(&given, run, sizeof given), 0);
+    EXPECT(memcmp(kept, memory, SIZE), 0);
+    EXPECT(memcmp(before, after, sizeof before), 0);
+}
+
+/* A run over map registers stops before each turn that uses blocks, and goes on with them. */
+static void runs(uint8_t opcode)
+{
+    static uint8_t bytes[2 * BLOCK];
+    uda50_turn_use run, other_one;
+
+    begin_run(&uda, opcode, 5, &run);
+    if (opcode == WRITE) {
+        EXPECT(uda50_get_written(&uda, window, SIZE, &run, 0, bytes, sizeof bytes), UDA50_OK);
+        EXPECT(bytes[0] == 0x11 && bytes[2 * BLOCK - 1] == 0x11, true);
+    }
+    run.ready = 3;
+    refused_run(&uda, &run, SIZE, UDA50_BAD_LENGTH);
+    make_ready(&run, 2);
+    refused_run(&uda, &run, SIZE - 2, UDA50_BAD_LENGTH);
+    refused_run(&other, &run, SIZE, UDA50_STALE);
+    other_one = run;
+    other_one.size = sizeof run - 1;
+    refused_run(&uda, &other_one, SIZE, UDA50_BAD_LENGTH);
+    other_one = run;
+    EXPECT(run_to_blocks(&uda, &run), UDA50_IDLE); /* it executed, delivered and rested */
+    EXPECT(run.blocks.count, 0);
+    EXPECT(run.lent.length, 0);
+    EXPECT(memory[BUFFER] == (opcode == READ ? 0x55 : 0x11), true);
+    EXPECT(get16(response_at(2) + 10), 0);
+    refused_run(&uda, &other_one, SIZE, UDA50_STALE);
+    run.turns = 0;
+    EXPECT(run_to_blocks(&uda, &run), UDA50_IDLE);
+}
+
+/* A run that may take one turn takes no more. A block that isn't ready ends the command with a drive error. */
+static void short_runs(void)
+{
+    uda50_turn_use run;
+
+    begin_run(&uda, READ, 1, &run);
+    make_ready(&run, 1);
+    EXPECT(run_to_blocks(&uda, &run), UDA50_EXECUTED);
+    EXPECT(run.turns, 0);
+    EXPECT(memory[BUFFER] == 0x55 && memory[BUFFER + BLOCK] == 0x11, true);
+    run.turns = 1;
+    EXPECT(run_to_blocks(&uda, &run), UDA50_DELIVERED);
+    EXPECT(get16(response_at(2) + 10), DRIVE_ERROR);
+}
+
+/* A reset drops the command before which a run stopped. */
+static void reset_run(void)
+{
+    uda50_turn_use run;
+
+    begin_run(&uda, WRITE, 3, &run);
+    uda50_write_ip(&uda, 0);
+    make_ready(&run, 2);
+    refused_run(&uda, &run, SIZE, UDA50_STALE);
+    run = (uda50_turn_use){ .size = sizeof run, .controller = (uintptr_t)&uda, .turns = 3 };
+    EXPECT(run_to_blocks(&uda, &run), UDA50_IDLE);
+}
+
 #ifdef UDA50_DEBUG
 static bool read_bytes(void *context, uint32_t at, uint32_t bytes, uint8_t *to)
 {
@@ -376,11 +482,14 @@ static uint32_t write_blocks(void *context, uint32_t lbn, uint32_t count, const 
 
 /* Takes a turn of a machine in a child. Its called image changes the window at this address or, if it is 0, doesn't.
    Returns how the child ended. */
-static int ended_by(uint32_t address)
+static int ended_by(uint32_t address, bool is_mapped)
 {
     uda50_called image = { sizeof image, &address, NULL, write_blocks };
-    uda50_machine machine = { .size = sizeof machine, .read = read_bytes, .write = write_bytes, .window = window,
-                              .addresses = SIZE, .images = { &image } };
+    uda50_machine by_calls = { .size = sizeof by_calls, .read = read_bytes, .write = write_bytes, .window = window,
+                               .addresses = SIZE, .images = { &image } };
+    uda50_machine mapped = { .size = sizeof mapped, .memory = memory, .length = SIZE, .map = &map, .window = window,
+                             .addresses = SIZE, .images = { &image } };
+    uda50_machine machine = is_mapped ? mapped : by_calls;
     uda50_turn_use turn;
     int status = 0;
     pid_t child;
@@ -398,15 +507,18 @@ static int ended_by(uint32_t address)
     return WIFSIGNALED(status) ? WTERMSIG(status) : -WEXITSTATUS(status);
 }
 
-/* A change of what the turn has read is noticed: of the buffer and of a descriptor. One elsewhere has no influence. */
+/* A change of what the turn has read is noticed: of the buffer and of a descriptor. One elsewhere has no influence, and is
+   noticed over map registers. */
 static void noticed_changes(void)
 {
-    EXPECT(ended_by(0), 0);
-    EXPECT(ended_by(BUFFER), SIGABRT);
-    EXPECT(ended_by(BUFFER + 2 * BLOCK - 1), SIGABRT);
-    EXPECT(ended_by(BASE + 4 * (RESPONSES + 1)), SIGABRT);
-    EXPECT(ended_by(BASE + 8), 0); /* the next response descriptor, at which the turn doesn't look */
-    EXPECT(ended_by(BUFFER + 2 * BLOCK), 0);
+    for (int is_mapped = 0; is_mapped <= 1; is_mapped++) {
+        EXPECT(ended_by(0, is_mapped), 0);
+        EXPECT(ended_by(BUFFER, is_mapped), SIGABRT);
+        EXPECT(ended_by(BUFFER + 2 * BLOCK - 1, is_mapped), SIGABRT);
+        EXPECT(ended_by(BASE + 4 * (RESPONSES + 1), is_mapped), SIGABRT);
+        EXPECT(ended_by(BUFFER + 2 * BLOCK, is_mapped), is_mapped ? SIGABRT : 0);
+    }
+    EXPECT(ended_by(BASE + 8, false), 0); /* the next response descriptor, at which the turn doesn't look */
 }
 #endif
 
@@ -428,6 +540,11 @@ int main(void)
     left_out();
     store_between();
     one_after_the_other();
+    set_registers();
+    runs(READ);
+    runs(WRITE);
+    short_runs();
+    reset_run();
 #ifdef UDA50_DEBUG
     noticed_changes();
 #endif

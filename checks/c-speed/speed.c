@@ -1,6 +1,6 @@
 /* speed.c: what the port costs a program in C, in processor time: turns, and Reads of 32 blocks and of one through
    rings of eight descriptors, over an image that is mapped. Then the same over a called image and memory that the bus
-   reaches through map registers.
+   reaches through map registers: by a call for each turn, and by a call for all turns until the port rests.
 
    Usage: speed IMAGE ROUNDS; prints a line for each work. */
 #define _POSIX_C_SOURCE 200809L
@@ -25,7 +25,7 @@ typedef struct {
 
 static uint8_t memory[SIZE], window[SIZE];
 static uda50 uda;
-static uint32_t place, turns; /* the next descriptor of both rings */
+static uint32_t place, turns; /* the next descriptor of both rings, and how often turns were asked for */
 
 /* The called image, and a machine whose bus addresses lead to the same ones of memory. */
 static const uint8_t *blocks;
@@ -51,6 +51,11 @@ static uint32_t turn_of_array(void)
 static uint32_t turn_of_mapped(void)
 {
     return uda50_machine_turn(&uda, &mapped);
+}
+
+static uint32_t run_of_mapped(void)
+{
+    return uda50_machine_run(&uda, 1000, &mapped);
 }
 
 static uint32_t (*take_turn)(void) = turn_of_array;
@@ -147,7 +152,7 @@ static bool measure(const char *how, uint32_t rounds)
                 if (!done(errands[i], group * COUNT * errands[i].blocks, COUNT))
                     return false;
         spent = now() - since;
-        printf("%s: %-12s %12.0f commands/s %12.0f turns/s\n", how, errands[i].name, rounds * ROUND * COUNT / spent,
+        printf("%s: %-12s %12.0f commands/s %12.0f calls/s\n", how, errands[i].name, rounds * ROUND * COUNT / spent,
                turns / spent);
     }
     return true;
@@ -171,6 +176,9 @@ int main(int argc, char **argv)
     if (uda50_new(&uda, true) != UDA50_OK || uda50_attach_called(&uda, 0, images[0].length / 512, true) != UDA50_OK || !start())
         return 2;
     if (!measure("mapped, by calls", (uint32_t)atoi(argv[2])))
+        return 1;
+    take_turn = run_of_mapped;
+    if (!measure("mapped, in runs", (uint32_t)atoi(argv[2])))
         return 1;
     uda50_free(&uda, (uda50_image[UDA50_UNITS]){{NULL, 0}});
     return uda50_file_close(&file) == UDA50_FILE_OK ? 0 : 1;

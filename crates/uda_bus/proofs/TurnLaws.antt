@@ -11,7 +11,6 @@ use Rattle.uda_mem.specs.Put.{put, part}
 use Rattle.uda_mem.specs.Ranges.{EMPTY_RANGE, LiesIn, SameIn, carried}
 use Rattle.uda_mem.proofs.PutLaws.{length-put, put_mid-put, put-nil}
 use Rattle.uda_mem.proofs.RangeLaws.{length-carried, part_shared}
-use Rattle.uda_port.specs.declared.memory_use.Missing.{Missing}
 use Rattle.uda_port.specs.declared.turn_at.TurnTaken.{TurnTaken}
 use Rattle.uda_port.specs.Interrupt.{ring_before}
 use Rattle.uda_port.specs.Port.{PortState}

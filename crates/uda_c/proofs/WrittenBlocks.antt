@@ -3,7 +3,6 @@ use Rattle.std.proofs.Common.{◌≡◌, ℕ, ◌*◌, List, length, refl, sym, 
 use Rattle.uda_mem.specs.Put.{part}
 use Rattle.uda_port.specs.BlockUse.{block_bytes_of}
 use Rattle.uda_port.specs.declared.memory_use.Missing.{Missing}
-use Rattle.uda_c.specs.declared.call_status.CallStatus.{CallStatus}
 use Rattle.uda_c.specs.declared.call_status.CallStatus.TheVariants.{Done, BadLength}
 use Rattle.uda_c.specs.declared.turn_use.TurnUse.{TurnUse}
 use Rattle.uda_c.specs.ControllerState.{ControllerState}

@@ -62,9 +62,14 @@ pub record IsRefused (step : Step) (before : ControllerState × TurnUse) (memory
 abbrev pub emptied : Slot → Slot
 emptied slot = if is_empty slot then slot else empty_slot
 
--- the controller after it began a turn of this struct
+-- The controller after it began a turn of this struct. If nothing has changed it since a turn was begun last, this is the
+-- same turn once more, and its count stays.
 abbrev pub opened : ControllerState → TurnUse → ControllerState
-opened c turn = record c { current = true; count = (c.count + 1) % 2 ^ 64; number = turn.controller }
+opened c turn = record c {
+  current = true;
+  count = if c.current then c.count else (c.count + 1) % 2 ^ 64;
+  number = turn.controller;
+}
 
 -- the struct of a turn that begins: its descriptors, and whose turn it is
 abbrev pub turn_begun : ControllerState → List ℕ → TurnUse → TurnUse
@@ -92,7 +97,7 @@ pub record BeginsTurn (before : ControllerState × TurnUse) (memory : List ℕ) 
   pub short : is_short before.1 ≡ true → (answer ≡ BadLength) × (after ≡ before)
   pub refuses : is_short before.1 ≡ false → (IsMemory memory → ⊥) → (answer ≡ memory_refusal memory) × (after ≡ before)
   pub done : is_short before.1 ≡ false → IsMemory memory → answer ≡ Done
-  pub numbered : is_short before.1 ≡ false → IsMemory memory
+  pub opens : is_short before.1 ≡ false → IsMemory memory
       → after.0 ≡ opened before.0 before.1
   pub filled : is_short before.1 ≡ false → IsMemory memory → after.1 ≡ turn_begun (opened before.0 before.1) memory before.1
 

@@ -53,13 +53,24 @@ impl Controller {
         ensures blocks { result
             ≡ range_reported self.now (blocks_of bus.now.missing self.now.port memory.now bus.now.place) }
     {
+        self.keep();
+        if any_called(&self.port) {
+            self.blocks_asked(memory, bus)
+        } else {
+            BlockRange::NONE
+        }
+    }
+
+    /// Returns the same. It is for a caller that knows that a unit has such an image.
+    pub(crate) fn blocks_asked(&self, memory: &[u8], bus: &BusTurn) -> BlockRange
+        requires memory { IsMemory memory.now }
+        requires planned { IsPlan self.now.port memory.now bus.now.plan }
+        ensures blocks { result
+            ≡ range_reported self.now (blocks_of bus.now.missing self.now.port memory.now bus.now.place) }
+    {
         let Plan::ToExecute = bus.plan else {
             return BlockRange::NONE;
         };
-        self.keep();
-        if !any_called(&self.port) {
-            return BlockRange::NONE;
-        }
         match self.port.blocks_at(memory, bus) {
             Some(used) if self.is_called(usize::from(used.unit)) => BlockRange::of(used),
             _ => BlockRange::NONE,

@@ -117,7 +117,7 @@ impl Controller {
         let turns = turn.turns;
         for taken in 0..turns {
             let next = bus.map.begin(&self.port, memory, window);
-            let blocks = self.blocks_used(window, &next);
+            let blocks = self.blocks_asked(window, &next);
             if blocks.count != 0 {
                 self.stop(turn, &next, blocks, turns - taken);
                 return CallStatus::NeedsBlocks;

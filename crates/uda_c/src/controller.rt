@@ -51,7 +51,7 @@ pub struct Controller {
     pub(crate) called: u8,
     // Whether the struct of the turn that was begun last is of its present turn.
     current: bool,
-    // How many turns were begun by steps, modulo 2^64.
+    // How many turns were begun by steps, modulo 2^64. One that is begun twice counts once.
     pub(crate) count: u64,
     // The number that C gave it when it began the last of them.
     number: u64,
@@ -128,8 +128,10 @@ impl Controller {
     pub(crate) fn open_turn(&mut self, turn: &TurnUse)
         ensures opened { self.new ≡ opened self.old turn.now }
     {
-        self.current = true;
-        self.count = self.count.wrapping_add(1);
+        if !self.current {
+            self.current = true;
+            self.count = self.count.wrapping_add(1);
+        }
         self.number = turn.controller;
     }
 

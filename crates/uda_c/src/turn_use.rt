@@ -19,7 +19,7 @@ pub struct TurnUse {
     pub size: usize,
     /// The number that C gives the controller.
     pub controller: u64,
-    /// How often calls had changed the controller when the turn began.
+    /// The controller's count when the turn began.
     pub count: u64,
     /// The step that was done last, by its number.
     pub step: u32,

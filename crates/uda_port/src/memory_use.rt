@@ -60,8 +60,8 @@ const NO_BODY: Body = Body {
 
 impl<S: BlockStore> Port<S> {
     /// Returns the index of the pending command that a turn of this plan executes, if it executes one. It is for
-    /// [`memory_use`](Port::memory_use) and [`turn_at`](Port::turn_at), and remains valid until something else is
-    /// done with the port.
+    /// [`body`](Port::body) and [`turn_at`](Port::turn_at), and remains valid until something else is done with the
+    /// port.
     pub fn next_place(&self, plan: Plan) -> usize
         ensures place { IsPlace self.now.exec.pending result }
         ensures within { result < PENDING_LIMIT }

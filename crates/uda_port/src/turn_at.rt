@@ -72,8 +72,9 @@ impl<S: BlockStore> Port<S> {
     /// window, which has as many bytes as the bus has addresses.
     ///
     /// Before a turn over a bus the caller copies [`descriptor_ranges`](Port::descriptor_ranges) into the window, and
-    /// plans the turn ([`plan`](Port::plan)). Then it copies the body ([`body`](Port::body)), if the turn reads it. The plan remains the same. Nothing else in the window matters. After the turn the caller copies the
-    /// written ranges out of the window, in their order. The rest of a Read's buffer in the window may hold anything.
+    /// plans the turn ([`plan`](Port::plan)). Then it copies the body ([`body`](Port::body)), if the turn reads it. The
+    /// plan remains the same. Nothing else in the window matters. After the turn the caller copies the written ranges out
+    /// of the window, in their order. The rest of a Read's buffer in the window may hold anything.
     ///
     /// `missing` says in which of these ranges an address leads nowhere. A turn that needs one is
     /// as at the end of memory. For a packet, a response buffer or the next descriptor of a ring the port fails. A

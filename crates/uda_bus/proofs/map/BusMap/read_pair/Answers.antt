@@ -1,4 +1,4 @@
-use Rattle.std.proofs.Common.{ℕ, length, subst, ◌∙◌}
+use Rattle.std.proofs.Common.{ℕ, subst, ◌∙◌}
 use Rattle.uda_mem.specs.Ranges.{SameIn}
 use Rattle.uda_bus.specs.Turns.{bus_memory, KeepsBytes}
 use Rattle.uda_bus.proofs.TurnLaws.{read_keeps, read_shared}

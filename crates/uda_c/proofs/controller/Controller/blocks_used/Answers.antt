@@ -4,9 +4,9 @@ use Rattle.uda_c.specs.Controllers.{any_called}
 use Rattle.uda_c.proofs.CalledUnits.{none_reported}
 use Rattle.uda_c.proofs.controller.Controller.blocks_used.Goals as goal
 
-pub returns-then-not-any_called : goal.returns-then-not-any_called
-returns-then-not-any_called c = record {
+pub returns-else-any_called : goal.returns-else-any_called
+returns-else-any_called c = record {
   blocks = none_reported c.args.self.now _ c.keep.ensures.valid.four_units
       (ap (λ (s : ControllerState). any_called s.port.exec.units) (sym c.self.view_is) ∙ sym c.any_called.ensures.called
-      ∙ c.if-not-any_called.true);
+      ∙ c.if-any_called.false);
 }

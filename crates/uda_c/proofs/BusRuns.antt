@@ -70,10 +70,10 @@ module _ (asked : TurnUse) (count left missing : ℕ) where
 pub stops_at : (bus : MappedBus) (left size : ℕ) (c new : ControllerState) (memory window : List ℕ) (asked turn : TurnUse)
     (next : BusTurn) (blocks : BlockRange) → size ≡ bus.size → IsBegun bus.map size (c.port, memory) next window
     → blocks ≡ range_reported c (blocks_of next.missing c.port window next.place) → (blocks.count ≡ 0 → ⊥)
-    → new ≡ opened c asked → missing_of turn.missing ≡ next.missing
+    → new ≡ opened c asked → missing_of turn.missing ≡ next.missing → turn.missing < 8
     → turn ≡ stopped asked (opened c asked).count left turn.missing next.place blocks
     → StopsAtBlocks bus left (c, memory) asked (record { machine = (new, memory); window = window; turn = turn })
-stops_at bus left size c new memory window asked turn next blocks sized begun told some numbered missing is =
+stops_at bus left size c new memory window asked turn next blocks sized begun told some numbered missing few is =
     let place : turn.place ≡ next.place = ap (λ (t : TurnUse). t.place) is in
     let has : turn.blocks ≡ blocks = ap (λ (t : TurnUse). t.blocks) is in
     let over = subst (λ (n : ℕ). IsBegun bus.map n (c.port, memory) next window) sized begun in
@@ -89,6 +89,7 @@ stops_at bus left size c new memory window asked turn next blocks sized begun to
       blocks_are = has ∙ told ∙ ap₂ (λ (m : Missing) (j : ℕ). range_reported c (blocks_of m c.port window j))
           (sym missing) (sym place);
       some = λ none. some (sym (ap (λ (b : BlockRange). b.count) has) ∙ none);
+      few = few;
       stays = ap (λ (s : ControllerState). (s, memory)) numbered;
       turn_is = is ∙ ap₂ (stopped asked (opened c asked).count left turn.missing) (sym place) (sym has);
     }

@@ -1,7 +1,7 @@
 -- Runs over memory through map registers by a controller with images that C reads and writes. A run stops before a turn
 -- that uses blocks of such an image, and goes on when C has moved them.
 -- PDP-11 UNIBUS map, VAX UNIBUS adapter, Q-bus map: map registers.
-use Rattle.std.specs.Prelude.{◌≡◌, ◌≢◌, ℕ, ◌-◌, zero, suc, true, false, List, length, ◌⊎◌}
+use Rattle.std.specs.Prelude.{◌≡◌, ◌≢◌, ℕ, ◌-◌, ◌<◌, zero, suc, true, false, List, length, ◌⊎◌}
 use Rattle.uda_exec.specs.BlockChanges.{ChangesOnly}
 use Rattle.uda_port.specs.BlockUse.{blocks_of, block_bytes_of}
 use Rattle.uda_port.specs.MemoryUse.{Agrees}
@@ -41,7 +41,7 @@ pub record TakesUnblockedTurn (bus : MappedBus) (before : Machine) (answer : Cal
       after.0.port.exec.units
 
 -- The run stops before a turn that uses blocks of such an image. The struct has these blocks, the command that the turn
--- executes, which addresses lead nowhere, and how many turns are left. The window has what the turn reads.
+-- executes, which addresses lead nowhere by three bits, and how many turns are left. The window has what the turn reads.
 pub record StopsAtBlocks (bus : MappedBus) (left : ℕ) (before : Machine) (asked : TurnUse) (after : BusRun)
     : Type 0 where
   pub plan : Plan
@@ -50,6 +50,7 @@ pub record StopsAtBlocks (bus : MappedBus) (left : ℕ) (before : Machine) (aske
   pub blocks_are : after.turn.blocks ≡ range_reported before.0
       (blocks_of (missing_of after.turn.missing) before.0.port after.window after.turn.place)
   pub some : after.turn.blocks.count ≢ 0
+  pub few : after.turn.missing < 8
   pub stays : after.machine ≡ (opened before.0 asked, before.1)
   pub turn_is : after.turn ≡ record asked {
     count = (opened before.0 asked).count;

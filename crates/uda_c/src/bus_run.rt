@@ -136,6 +136,7 @@ impl Controller {
         requires place { next.now.place < PENDING_LIMIT }
         ensures opened { self.new ≡ opened self.old turn.old }
         ensures missing { missing_of turn.new.missing ≡ next.now.missing }
+        ensures few { turn.new.missing < 8 }
         ensures turn { turn.new ≡ record turn.old {
           count = (opened self.old turn.old).count;
           step = step_code Filled;
@@ -183,6 +184,7 @@ impl Controller {
 // Returns which addresses lead nowhere, by the bits of a number.
 fn missing_bits(missing: Missing) -> u32
     ensures bits { missing_of result ≡ missing }
+    ensures few { result < 8 }
 {
     u32::from(missing.commands) + 2 * u32::from(missing.responses) + 4 * u32::from(missing.body)
 }

@@ -18,7 +18,7 @@ returns-then-blocks-ne0 c =
     c.self.view_is next.ensures.begun in
     let stops = stops_at bus (asked.turns - loop.taken) (length loop.window) loop.self c.stop.new.self loop.memory next.new.window asked
     c.stop.new.turn next.result c.blocks_asked-blocks.result loop.invariant.0 begun c.blocks_asked-blocks.ensures.blocks
-    c.if-blocks-ne0.true (c.stop.ensures.opened ∙ ap (opened loop.self) loop.invariant.1) c.stop.ensures.missing
+    c.if-blocks-ne0.true (c.stop.ensures.opened ∙ ap (opened loop.self) loop.invariant.1) c.stop.ensures.missing c.stop.ensures.few
     (c.stop.ensures.turn
     ∙ ap (λ (t : TurnUse). stopped t (opened loop.self t).count (asked.turns - loop.taken) c.stop.new.turn.missing next.result.place
     c.blocks_asked-blocks.result) loop.invariant.1) in

@@ -22,7 +22,7 @@
 
    One call at a time uses a handle. A handle may go from one thread to another, if a lock or the start or end of a
    thread orders the calls. Threads may use different handles at once. No call blocks. Only uda50_new, uda50_new_as,
-   uda50_format_last_turn and the turns and words over mapped memory allocate memory. */
+   uda50_format_last_turn, uda50_run_mapped and uda50_write_sa_mapped allocate memory. */
 #ifndef UDA50_H
 #define UDA50_H
 
@@ -67,7 +67,8 @@ enum {
     UDA50_NOT_ATTACHED = 68,     /* the unit has no image */
     UDA50_BAD_LENGTH = 69,       /* an image isn't one or more whole blocks, guest memory or a bus has an odd length, or a
                                     saved state hasn't UDA50_STATE_LENGTH bytes. Or bytes aren't those of whole blocks,
-                                    or go past their end. Or the `size` of a struct is too small */
+                                    or go past their end. Or the `size` of a struct is too small, or a window hasn't as
+                                    many bytes as its bus has addresses */
     UDA50_TOO_LARGE = 70,        /* an image has more than UDA50_MAX_BLOCKS blocks, or guest memory that is one array, or
                                     a bus, more than 4,194,304 bytes */
     UDA50_NOT_EMPTY = 71,        /* a struct that an image is to be put into isn't empty */
@@ -215,8 +216,8 @@ uint32_t uda50_write_sa(uda50 *handle, uint16_t word, uint8_t *memory, size_t le
 uint16_t uda50_read_sa(uda50 *handle);
 
 /* Takes the pending interrupt request, if there is one. Returns true, and *vector is the address of its vector, 4 to
-   0x1FC; or returns false, and *vector is as it was. Call it after each register access and after uda50_turn or
-   uda50_run. A strict controller has no requests. */
+   0x1FC; or returns false, and *vector is as it was. Call it after each register access, after uda50_turn or
+   uda50_run, and when a run of uda50_steps.h is over. A strict controller has no requests. */
 bool uda50_take_interrupt(uda50 *handle, uint16_t *vector);
 
 /* ---- Turns ---- */

@@ -42,7 +42,7 @@ typedef struct {
    controller has a called image. What is in it before a call has no influence. Controllers may share a window, one
    after the other. During a call it is this controller's alone: otherwise a disk would get bytes of another controller,
    with status 0. If uda50_machine.c is compiled with UDA50_DEBUG, an assertion fails when what a turn has read into the
-   window has changed.
+   window has changed. Over map registers any change of the window fails it.
 
    images[n] has the functions of unit n, if its image was attached by uda50_attach_called. Those of another unit aren't
    called, and may be null. */

@@ -29,7 +29,6 @@
    A step is refused with UDA50_STALE, and nothing changes, if it is of another controller, of an earlier turn, or out
    of order:
      - The struct has another `controller` than the one with which this controller began a turn last.
-     - Another turn was begun since the struct's turn began.
      - The controller was changed since the struct's turn began. These calls change it, also when they fail: turns,
        writes and reads of IP, writes of SA, uda50_take_interrupt, uda50_attach, uda50_attach_called, uda50_detach,
        uda50_set_type, uda50_set_protected, uda50_restore and uda50_inject_failure. uda50_turn_at does if it takes a turn,
@@ -38,7 +37,8 @@
        nor after a run that stopped at blocks. Such steps are uda50_get_written, uda50_turn_at, and uda50_run_to_blocks
        with a struct that has blocks.
    Then begin the turn anew. A struct of another controller isn't noticed if both have the same number and have begun as
-   many turns by steps. A controller that was freed, and the next one of its handle, are two controllers.
+   many turns by steps. A controller that was freed, and the next one of its handle, are two controllers: drop the structs
+   of the first, or give the second another number.
 
    Between the first step of a turn and the last, and while a run waits for blocks:
      - The guest doesn't run, and no device writes to its memory: the turn goes by what steps 1 and 2 have read. The last
@@ -96,7 +96,7 @@ typedef struct {
 typedef struct {
     size_t size;                /* sizeof(uda50_turn_use): later members go last */
     uint64_t controller;        /* a number of its own for each controller, such as the address of its handle */
-    uint64_t count;             /* the library's: how many turns the controller has begun by these calls, with this one */
+    uint64_t count;             /* the library's: which of the controller's turns that were begun by these calls this is */
     uint32_t step;              /* the library's: the step that was done last */
     uda50_range descriptors[4]; /* the next one of the command ring, the one before it; the same of the response ring;
                                    empty for a ring at which the turn doesn't look */
@@ -133,8 +133,8 @@ uint32_t uda50_get_written(uda50 *handle, const uint8_t *window, size_t length, 
    first that isn't, the command fails: it ends with status 0x000B, a drive error, and the byte count of the blocks
    before. A missing address is treated as by the calls over mapped memory.
 
-   The bytes of `lent` are the library's during the call, as those of an image. It reads them in place. After a turn
-   `lent` is empty, and the bytes are the emulator's again: keep their address. A turn without blocks, and one that
+   The bytes of `lent` are the library's during the call, as those of an image. It reads them in place, and doesn't
+   change them. After a turn `lent` is empty, and the bytes are the emulator's again: keep their address. A turn without blocks, and one that
    doesn't read them, only empties `lent`. A Write is written before this call, so its end message tells which blocks
    were written.
 
@@ -146,19 +146,21 @@ uint32_t uda50_turn_at(uda50 *handle, uint8_t *window, size_t length, uda50_turn
 
 /* ---- Runs over map registers ---- */
 
-/* Runs up to `turns` turns of the struct over `memory`, which the bus reaches through `map` and which may have any
+/* Runs as many turns as `turns` of the struct says, or fewer, over `memory`, which the bus reaches through `map` and which may have any
    length. It stops after a turn that is UDA50_IDLE or UDA50_DEAD. It also stops before each turn that uses blocks of a
    called image, and returns UDA50_NEEDS_BLOCKS. So it takes the place of all other steps except uda50_get_written, and
    the emulator only moves the blocks. It allocates nothing. The controller may be one without called images.
 
    A run begins with a struct that is zero except for `size`, `controller` and `turns`. The window has as many bytes as
-   the bus has addresses, and what is in it has no influence.
+   the bus has addresses, and what is in it then has no influence.
 
    After UDA50_NEEDS_BLOCKS the window has what the turn reads. The struct has the `place`, the `missing` addresses and
    the `blocks` of the turn, and in `turns` how many turns are left. Its `ready` is 0 and its `lent` empty. It has no
    descriptors and no body. The emulator moves the blocks as in step 3 of a turn. Then it makes the call again with the
    same struct, memory, map and window. The library takes that turn as uda50_turn_at does, by what the window has. It
-   copies what the turn has written to the memory, and goes on. Until then the window is this controller's.
+   copies what the turn has written to the memory, and goes on. Until then the window is this controller's. Turns may have
+   been taken before the stop, so an interrupt request may be pending. Take it when the run is over: uda50_take_interrupt
+   makes the struct stale.
 
    Otherwise it returns what the last turn did, or UDA50_IDLE if there was none. The struct has no blocks then, and may
    begin another run after `turns` is set again.

@@ -677,7 +677,7 @@ static void lent_for_one_turn(void)
     uda50_turn_use use;
 
     for (uint32_t n = 0; n < 4 * sizeof opcodes; n++) {
-        uint8_t opcode = opcodes[n / 4], *bytes = malloc(3 * BLOCK);
+        uint8_t opcode = opcodes[n / 4], *bytes = malloc(3 * BLOCK), kept[3 * BLOCK];
         uint32_t ready = n % 4;
 
         begin(ARRAY);
@@ -685,9 +685,11 @@ static void lent_for_one_turn(void)
         make_pending(opcode, 3 * BLOCK);
         ask(&use);
         memcpy(bytes, memory + BUFFER, 3 * BLOCK);
+        memcpy(kept, bytes, 3 * BLOCK);
         use.lent = (uda50_image){ bytes, reads_bytes(opcode) ? ready * BLOCK : 3 * BLOCK };
         EXPECT(bytes_of(&use, ready, ready == 3 ? 0 : DRIVE_ERROR), ready * BLOCK);
         EXPECT(use.lent.length, 0);
+        EXPECT(memcmp(bytes, kept, 3 * BLOCK), 0); /* the library only reads them */
         memset(bytes, 0x77, 3 * BLOCK);
         free(bytes);
         memset(memory + BUFFER, 0x11, 3 * BLOCK);

@@ -121,7 +121,8 @@ impl BusMap<'_> {
     }
 
     /// Reads into a window what the next turn of a port reads from the bus. Returns that turn, for [`end`](BusMap::end).
-    /// The bus has as many addresses as the window has bytes, and nothing else in the window matters.
+    /// The bus has as many addresses as the window has bytes, and nothing else in the window matters. The window is one
+    /// that a port may have as memory ([`is_memory`](uda_mem::is_memory)).
     pub fn begin<S: BlockStore>(&self, port: &Port<S>, memory: &[u8], window: &mut [u8]) -> BusTurn
         requires window { IsMemory window.old }
         ensures begun { IsBegun self.now (length window.old) (port.now, memory.now) result window.new }
@@ -143,8 +144,8 @@ impl BusMap<'_> {
         }
     }
 
-    /// Takes a turn that was begun, and writes on the bus what it wrote in the window ([`begin`](BusMap::begin)). Only the
-    /// blocks of [`blocks_at`](Port::blocks_at) may change.
+    /// Takes a turn that was begun, and writes on the bus what it wrote in the window ([`begin`](BusMap::begin)). The port,
+    /// the memory and the window are as they were then. Only the blocks of [`blocks_at`](Port::blocks_at) may change.
     pub fn end<S: BlockStore>(
         &self,
         port: &mut Port<S>,
@@ -329,7 +330,7 @@ impl BusMap<'_> {
         )
     }
 
-    /// Writes these ranges of a window on the bus, in their order.
+    /// Writes these ranges of a window on the bus, in their order. They lie in the window.
     pub fn store(&self, memory: &mut [u8], ranges: &[ByteRange], window: &[u8])
         requires within { All (LiesIn window.now) ranges.now }
         ensures stored { memory.new ≡ stored_ranges self.now ranges.now window.now memory.old }

@@ -61,7 +61,7 @@ impl Controller {
         }
     }
 
-    /// Returns the same. It is for a caller that knows that a unit has such an image.
+    /// Returns the same, without first asking whether a unit has such an image.
     pub(crate) fn blocks_asked(&self, memory: &[u8], bus: &BusTurn) -> BlockRange
         requires memory { IsMemory memory.now }
         requires planned { IsPlan self.now.port memory.now bus.now.plan }

@@ -42,7 +42,7 @@ struct Ready {
 pub struct CalledImage {
     size: u32,
     ready: Ready,
-    // The bytes of the lent blocks. They belong to the program again when the blocks aren't ready any more.
+    // The bytes of the lent blocks. They belong to the program again after a `begin` or a write.
     lent: Option<BorrowedBytes>,
     trace: FileTrace,
 }
@@ -121,8 +121,8 @@ impl CalledImage {
         };
     }
 
-    /// Takes bytes that the program lends, as those of blocks from block `first` on. The image owns them until these
-    /// blocks aren't ready any more. Returns false and changes nothing if blocks are lent already, if `first` isn't
+    /// Takes bytes that the program lends, as those of blocks from block `first` on. The image owns them until the next
+    /// `begin` or write. Returns false and changes nothing if blocks are lent already, if `first` isn't
     /// the first block that is made ready, if the bytes aren't whole blocks, or if the image has fewer.
     pub fn lend(&mut self, first: u32, from: &mut Option<BorrowedBytes>) -> bool
         ensures fits { result ≡ can_lend self.old.ready (block_count_of self.old.bytes) first

@@ -23,11 +23,10 @@ use uda_exec::BufferUse;
 use uda_image::BlockStore;
 use uda_mem::ByteRange;
 
-/// What the next turn uses of host memory, in addition to the descriptors that it reads
-/// ([`descriptor_ranges`](Port::descriptor_ranges)).
+/// The packet or the buffer that the next turn uses.
 #[derive(Clone, Copy, Debug, PartialEq, Eq)]
 pub struct Body {
-    /// The packet, or the buffer of the command. The turn reads or writes it, or part of it. Of a transfer of 0 bytes it
+    /// Its bytes. The turn reads or writes them, or part of them. Of a transfer of 0 bytes it
     /// is one byte: the turn doesn't read it, but its address must lead somewhere.
     pub range: ByteRange,
     /// Whether the turn reads it. If it doesn't, as the buffer of a Read, only its addresses matter.
@@ -90,8 +89,8 @@ impl<S: BlockStore> Port<S> {
         ]
     }
 
-    /// Returns what the next turn, of this plan, uses of memory, if it executes the pending command at index `place` when
-    /// it executes one. Of memory only the descriptors matter.
+    /// Returns the packet or the buffer that a turn of this plan uses. If the turn executes a command, that is the pending
+    /// command at index `place`. Of memory only the descriptors matter.
     pub fn body(&self, plan: Plan, memory: &[u8], place: usize) -> Body
         requires memory { IsMemory memory.now }
         requires planned { IsPlan self.now memory.now plan }
@@ -103,7 +102,7 @@ impl<S: BlockStore> Port<S> {
         self.body_by(plan, memory, place)
     }
 
-    // Returns what a turn of this plan uses of memory.
+    // Returns the same, by the plan.
     fn body_by(&self, plan: Plan, memory: &[u8], place: usize) -> Body
         requires memory { IsMemory memory.now }
         ensures body { IsBody result (use_by self.now memory.now place plan) }

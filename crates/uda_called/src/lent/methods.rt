@@ -6,6 +6,7 @@ ghost use types.Logic.{sem};
 use super::BorrowedBytes;
 
 impl BorrowedBytes {
+    /// Returns the bytes.
     pub fn bytes_mut(&mut self) -> &mut [u8]
         ensures* writes_back { sem 𝓛 (lent_follows self.entry result) }
         ensures value { result.now ≡ self.old.held }

@@ -365,7 +365,7 @@ static uint32_t run_to_blocks(uda50 *it, uda50_turn_use *run)
     return uda50_run_to_blocks(it, memory, SIZE, &map, window, SIZE, run);
 }
 
-/* Brings unit 0 online, and fetches a command of two blocks. Begins a run of so many turns, which stops before it. */
+/* Brings unit 0 online, and fetches a command of two blocks. Begins a run of `turns` turns, which stops before it. */
 static void begin_run(uda50 *it, uint8_t opcode, uint32_t turns, uda50_turn_use *run)
 {
     uda50_turn_use turn;

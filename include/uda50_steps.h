@@ -109,7 +109,7 @@ typedef struct {
     uint32_t reads_body;        /* 1 if the turn reads the body; 0 if its addresses need only lead somewhere */
     uda50_blocks blocks;        /* the blocks that the turn uses of a called image, unless the body is missing */
     uint32_t ready;             /* how many of these, from the first on, the emulator has moved */
-    uda50_image lent;           /* the bytes of those blocks, for UDA50_READS; a turn empties it */
+    uda50_image lent;           /* the bytes of those blocks, for UDA50_READS */
     uint32_t turns;             /* for uda50_run_to_blocks: how many turns to take; when it stops at blocks, how many
                                    are left, with the one before which it stopped */
 } uda50_turn_use;
@@ -133,10 +133,9 @@ uint32_t uda50_get_written(uda50 *handle, const uint8_t *window, size_t length, 
    first that isn't, the command fails: it ends with status 0x000B, a drive error, and the byte count of the blocks
    before. A missing address is treated as by the calls over mapped memory.
 
-   The bytes of `lent` are the library's during the call, as those of an image. It reads them in place, and doesn't
-   change them. After a turn `lent` is empty, and the bytes are the emulator's again: keep their address. A turn without blocks, and one that
-   doesn't read them, only empties `lent`. A Write is written before this call, so its end message tells which blocks
-   were written.
+   The bytes of `lent` are the library's during the call, as those of an image. It reads them in place. When it returns,
+   `lent` is as it was, with the same bytes. A turn without blocks, and one that doesn't read them, ignores `lent`. A
+   Write is written before this call, so its end message tells which blocks were written.
 
    Returns what uda50_turn does, or the first that holds of UDA50_NO_CONTROLLER, UDA50_STALE, UDA50_BAD_LENGTH, also for
    a `size` that is too small, and UDA50_TOO_LARGE. Then UDA50_BAD_LENGTH if `ready` is above `blocks.count`, or `lent`

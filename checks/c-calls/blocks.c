@@ -633,7 +633,7 @@ static void ready_once(void)
             memcpy(bytes, memory + BUFFER, sizeof bytes);
             use.lent = (uda50_image){ bytes, reads_bytes(opcodes[n]) ? ready * BLOCK : 7 };
             EXPECT(bytes_of(&use, ready, ready == 3 ? 0 : DRIVE_ERROR), ready * BLOCK);
-            EXPECT(use.lent.length, 0);
+            EXPECT(use.lent.at == bytes && use.lent.length == (reads_bytes(opcodes[n]) ? ready * BLOCK : 7), true);
             make_pending(opcodes[n], 2 * BLOCK);
             EXPECT(ask(&use).count, 2);
             EXPECT(bytes_of(&use, 0, DRIVE_ERROR), 0);
@@ -669,8 +669,8 @@ static void lent_bytes(void)
     EXPECT(memcmp(memory + BUFFER, called.disks[0] + 5 * BLOCK, BLOCK), 0);
 }
 
-/* After its turn the library has no bytes that it was lent, whether the command used them all or not. A Read without
-   ready blocks gets none of them, and leaves its buffer as it is. */
+/* After a turn the struct has the bytes that it lent, as they were, whether the command used them all or not. The library
+   has none of them: a Read without ready blocks gets none, and leaves its buffer as it is. */
 static void lent_for_one_turn(void)
 {
     static const uint8_t opcodes[] = { READ, COMPARE, WRITE, ACCESS };
@@ -688,8 +688,8 @@ static void lent_for_one_turn(void)
         memcpy(kept, bytes, 3 * BLOCK);
         use.lent = (uda50_image){ bytes, reads_bytes(opcode) ? ready * BLOCK : 3 * BLOCK };
         EXPECT(bytes_of(&use, ready, ready == 3 ? 0 : DRIVE_ERROR), ready * BLOCK);
-        EXPECT(use.lent.length, 0);
-        EXPECT(memcmp(bytes, kept, 3 * BLOCK), 0); /* the library only reads them */
+        EXPECT(use.lent.at == bytes && use.lent.length == (reads_bytes(opcode) ? ready * BLOCK : 3 * BLOCK), true);
+        EXPECT(memcmp(bytes, kept, 3 * BLOCK), 0);
         memset(bytes, 0x77, 3 * BLOCK);
         free(bytes);
         memset(memory + BUFFER, 0x11, 3 * BLOCK);

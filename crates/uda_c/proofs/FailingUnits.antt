@@ -13,11 +13,12 @@ use Rattle.uda_port.specs.Port.{PortState, read_only_at}
 use Rattle.uda_c.specs.declared.call_status.CallStatus.TheVariants.{Done, NoSuchUnit, NotAttached, OtherKind}
 use Rattle.uda_c.specs.ControllerState.{ControllerState}
 use Rattle.uda_image.specs.Store.{StoreState}
-use Rattle.uda_called.specs.CalledImage.{none_ready}
+use Rattle.uda_called.specs.CalledImage.{none_ready, bytes_in, bytes_lent}
+use Rattle.uda_called.specs.declared.lent.BorrowedBytes.{BorrowedBytes}
 use Rattle.uda_c.specs.declared.block_range.Prepared.{Prepared}
 use Rattle.uda_c.specs.declared.call_status.CallStatus.{CallStatus}
-use Rattle.uda_c.specs.BlockRange.{LendsBlocks, AllowsBlocks, size_in, size_at, lend_answer_in, allow_answer_in, with_none_ready}
-use Rattle.uda_c.specs.UnitImage.{store_failing, store_lent, store_begun, store_prepared, lend_answer, allow_answer, is_called, is_called_in, ReadyAnswer, status_of}
+use Rattle.uda_c.specs.BlockRange.{LendsBlocks, AllowsBlocks, size_at, lend_answer_in, allow_answer_in, with_none_ready, lent_at}
+use Rattle.uda_c.specs.UnitImage.{store_failing, store_lent, store_begun, called_begun, store_prepared, is_called, is_called_in, ReadyAnswer, status_of}
 use Rattle.uda_c.specs.Controllers.{FailsAt, SetsProtection, unit_protected, port_protected, unit_with, with_store, port_put_back, has_image, unit_answer, failing_answer, is_called_at}
 
 -- a unit with a mode and a size has a drive
@@ -189,84 +190,103 @@ fails_not old u call look there e called = record {
   refused = λ _. refl;
 }
 
+-- What holds of a unit's slot by its store holds of the drive that was removed, and of the drive that was changed and put
+-- back.
+module _ {A : Type 0} (of_slot : Option (Option UnitState) → A) (of_store : StoreState → A)
+    (same : (unit : UnitState) → of_slot (Some (Some unit)) ≡ of_store unit.store)
+    (old : ControllerState) (u : ℕ) (look : UnitInfo) (drive : DriveState)
+    (e : info_at (slice_get old.port.exec.units u) ≡ Some look)
+    (back : Some drive ≡ returned_drive old.port.exec.units u None) where
+  abbrev units : List (Option UnitState)
+  units = old.port.exec.units
+
+  abbrev s : Seen (slice_get units u) look
+  s = seen (slice_get units u) look e
+
+  drive_is : drive ≡ drive_in s.unit
+  drive_is = ap (λ (o : Option DriveState). unwrap_or o drive) (back ∙ handed units u s.unit s.here)
+
+  pub slot_is : of_slot (slice_get units u) ≡ of_store drive.store
+  slot_is = ap of_slot s.here ∙ same s.unit ∙ sym (ap (λ (d : DriveState). of_store d.store) drive_is)
+
+  pub slot_after : (change : StoreState → StoreState)
+      → of_slot (slice_get (with_store old u change).port.exec.units u) ≡ of_store (change drive.store)
+  slot_after change =
+      ap (λ (o : Option (Option UnitState)).
+      of_slot (slice_get (set units u (option_map (unit_with change) (unwrap_or o None))) u)) s.here
+      ∙ ap of_slot
+      (slice_get-set_same units u (Some (unit_with change s.unit)) (slice_get_within units u (Some s.unit) s.here))
+      ∙ same (unit_with change s.unit) ∙ sym (ap (λ (d : DriveState). of_store (change d.store)) drive_is)
+
 -- a drive that is removed is one that C reads and writes, as its unit's
 pub called_drive_is : (old : ControllerState) (u : ℕ) (look : UnitInfo) (drive : DriveState)
     → info_at (slice_get old.port.exec.units u) ≡ Some look → Some drive ≡ returned_drive old.port.exec.units u None
     → is_called_at old u ≡ is_called drive.store
-called_drive_is old u look drive e back =
-    let units = old.port.exec.units in
-    let s = seen (slice_get units u) look e in
-    let drive_is : drive ≡ drive_in s.unit =
-    ap (λ (o : Option DriveState). unwrap_or o drive) (back ∙ handed units u s.unit s.here) in
-    ap is_called_in s.here ∙ sym (ap (λ (d : DriveState). is_called d.store) drive_is)
+called_drive_is old u look drive e back = slot_is is_called_in is_called (λ unit. refl) old u look drive e back
 
--- and one of as many blocks
-pub drive_size_is : (old : ControllerState) (u : ℕ) (look : UnitInfo) (drive : DriveState)
-    → info_at (slice_get old.port.exec.units u) ≡ Some look → Some drive ≡ returned_drive old.port.exec.units u None
-    → size_at old u ≡ drive.store.size
-drive_size_is old u look drive e back =
+-- two changes of a store, one after the other
+pub both_changes : (old : ControllerState) (u : ℕ) (one two : StoreState → StoreState) (look : UnitInfo)
+    → info_at (slice_get old.port.exec.units u) ≡ Some look
+    → with_store (with_store old u one) u two ≡ with_store old u (λ (s : StoreState). two (one s))
+both_changes old u one two look e =
     let units = old.port.exec.units in
     let s = seen (slice_get units u) look e in
-    let drive_is : drive ≡ drive_in s.unit =
-    ap (λ (o : Option DriveState). unwrap_or o drive) (back ∙ handed units u s.unit s.here) in
-    ap size_in s.here ∙ sym (ap (λ (d : DriveState). d.store.size) drive_is)
-
--- and its answers to C
-pub lend_answer_is : (old : ControllerState) (u first bytes : ℕ) (look : UnitInfo) (drive : DriveState)
-    → info_at (slice_get old.port.exec.units u) ≡ Some look → Some drive ≡ returned_drive old.port.exec.units u None
-    → lend_answer first bytes drive.store ≡ lend_answer_in first bytes (slice_get old.port.exec.units u)
-lend_answer_is old u first bytes look drive e back =
-    let units = old.port.exec.units in
-    let s = seen (slice_get units u) look e in
-    let drive_is : drive ≡ drive_in s.unit =
-    ap (λ (o : Option DriveState). unwrap_or o drive) (back ∙ handed units u s.unit s.here) in
-    ap (λ (d : DriveState). lend_answer first bytes d.store) drive_is ∙ sym (ap (lend_answer_in first bytes) s.here)
-
-pub allow_answer_is : (old : ControllerState) (u count : ℕ) (way : Prepared) (look : UnitInfo) (drive : DriveState)
-    → info_at (slice_get old.port.exec.units u) ≡ Some look → Some drive ≡ returned_drive old.port.exec.units u None
-    → allow_answer way count drive.store ≡ allow_answer_in way count (slice_get old.port.exec.units u)
-allow_answer_is old u count way look drive e back =
-    let units = old.port.exec.units in
-    let s = seen (slice_get units u) look e in
-    let drive_is : drive ≡ drive_in s.unit =
-    ap (λ (o : Option DriveState). unwrap_or o drive) (back ∙ handed units u s.unit s.here) in
-    ap (λ (d : DriveState). allow_answer way count d.store) drive_is
-    ∙ sym (ap (allow_answer_in way count) s.here)
+    let is : option_map (unit_with one) (unwrap_or (slice_get units u) None) ≡ Some (unit_with one s.unit) =
+    ap (λ (o : Option (Option UnitState)). option_map (unit_with one) (unwrap_or o None)) s.here in
+    let got : slice_get (set units u (Some (unit_with one s.unit))) u ≡ Some (Some (unit_with one s.unit)) =
+    slice_get-set_same units u (Some (unit_with one s.unit)) (slice_get_within units u (Some s.unit) s.here) in
+    ap (λ (us : List (Option UnitState)).
+    record old { port = record old.port { exec = record old.port.exec { units = us } } })
+    (ap (λ (o : Option UnitState).
+    set (set units u o) u (option_map (unit_with two) (unwrap_or (slice_get (set units u o) u) None))) is
+    ∙ ap (λ (o : Option (Option UnitState)).
+    set (set units u (Some (unit_with one s.unit))) u (option_map (unit_with two) (unwrap_or o None))) got
+    ∙ set-set units u (Some (unit_with one s.unit)) (Some (unit_with two (unit_with one s.unit)))
+    ∙ ap (λ (o : Option (Option UnitState)).
+    set units u (option_map (unit_with (λ (x : StoreState). two (one x))) (unwrap_or o None))) (sym s.here))
 
 -- ---- blocks that are made ready
 
-pub lent_size : (done : Bool) (first : ℕ) (from : List ℕ) (store : StoreState)
+pub lent_size : (done : Bool) (first : ℕ) (from : Option BorrowedBytes) (store : StoreState)
     → (store_lent done first from store).size ≡ store.size
 lent_size true first from store = refl
 lent_size false first from store = refl
 
-pub lent_faithful : (done : Bool) (first : ℕ) (from : List ℕ) (store : StoreState)
+pub lent_faithful : (done : Bool) (first : ℕ) (from : Option BorrowedBytes) (store : StoreState)
     → (store_lent done first from store).faithful ≡ store.faithful
 lent_faithful true first from store = refl
 lent_faithful false first from store = refl
 
+-- what holds of a call that is done
+pub if_ok : {A B : Type 0} (made : Result Unit CallStatus) → (A → B) → IfOk made (λ _. A) → IfOk made (λ _. B)
+if_ok (Ok done) goes a = goes a
+if_ok (Err status) goes a = tt
+
 -- the calls that lend blocks, or don't
-pub lends : (old : ControllerState) (u first : ℕ) (from : List ℕ) (made : Result Unit CallStatus)
+pub lends : (old : ControllerState) (u first : ℕ) (from : Option BorrowedBytes) (made : Result Unit CallStatus)
     (answer : CallStatus) (new : ControllerState)
     → unit_answer old u ≡ Done → ReadyAnswer (is_called_at old u) (status_of made)
-    → status_of made ≡ lend_answer_in first (length from) (slice_get old.port.exec.units u)
-    → IfOk made (λ _. (length from % 512 ≡ 0) × (first + length from / 512 ≤ size_at old u))
+    → status_of made ≡ lend_answer_in first (length (bytes_in from)) (slice_get old.port.exec.units u)
+    → IfOk made (λ _. (length (bytes_in from) % 512 ≡ 0) × (first + length (bytes_in from) / 512 ≤ size_at old u))
+    → IfOk made (λ _. lent_at new u first ≡ option_map bytes_lent from)
     → IfErr made (λ status. status ≢ Done) → answer ≡ status_of made
     → new ≡ with_store old u (store_lent (is_ok made) first from) → LendsBlocks old (u, first) from answer new
-lends old u first from (Ok done) answer new there kind answers fits fails is goes = record {
+lends old u first from (Ok done) answer new there kind answers fits has fails is goes = record {
   no_image = λ no. absurd (no there);
   kind = λ _. subst (ReadyAnswer (is_called_at old u)) (sym is) kind;
   answers = λ _. is ∙ answers;
   fits = λ _. fits;
   lent = λ _. goes;
+  has = λ _. has;
   refused = λ no. absurd (no is);
 }
-lends old u first from (Err status) answer new there kind answers fits fails is goes = record {
+lends old u first from (Err status) answer new there kind answers fits has fails is goes = record {
   no_image = λ no. absurd (no there);
   kind = λ _. subst (ReadyAnswer (is_called_at old u)) (sym is) kind;
   answers = λ _. is ∙ answers;
   fits = λ done. absurd (fails (sym is ∙ done));
   lent = λ done. absurd (fails (sym is ∙ done));
+  has = λ done. absurd (fails (sym is ∙ done));
   refused = λ _. goes ∙ nothing_changes old u;
 }
 
@@ -307,28 +327,42 @@ allows old u count way (Err status) answer new there kind answers fits fails is 
 
 -- ---- nothing is ready
 
-pub begun_size : (first : ℕ) (store : StoreState) → (store_begun first store).size ≡ store.size
-begun_size first store = go (nat_le first store.size)
-  where
-    go : (b : Bool) → (if b then record store { ready = Some (none_ready first) } else store).size ≡ store.size
-    go true = refl
-    go false = refl
+-- a part of a store that is so changed in two cases, and the same in both
+begun_part : {A : Type 0} (part : StoreState → A) (first : ℕ) (store : StoreState) (called there : Bool)
+    → part (record store { ready = Some (none_ready first) }) ≡ part store
+    → part (if called then (if there then record store { ready = Some (none_ready first) } else store) else store)
+    ≡ part store
+begun_part part first store true true same = same
+begun_part part first store true false same = refl
+begun_part part first store false there same = refl
 
-pub begun_faithful : (first : ℕ) (store : StoreState) → (store_begun first store).faithful ≡ store.faithful
-begun_faithful first store = go (nat_le first store.size)
-  where
-    go : (b : Bool)
-        → (if b then record store { ready = Some (none_ready first) } else store).faithful ≡ store.faithful
-    go true = refl
-    go false = refl
+pub begun_size : (first : ℕ) (store : StoreState) → (called_begun first store).size ≡ store.size
+begun_size first store =
+    begun_part (λ (s : StoreState). s.size) first store (is_called store) (nat_le first store.size) refl
 
--- the image of a unit that C reads and writes, or another one
-pub begins : (old : ControllerState) (u first : ℕ) (new : ControllerState) → is_called_at old u ≡ true
-    → new ≡ with_store old u (store_begun first) → new ≡ with_none_ready old u first
-begins old u first new called goes =
-    goes ∙ sym (ap (λ b. if b then with_store old u (store_begun first) else old) called)
+pub begun_faithful : (first : ℕ) (store : StoreState) → (called_begun first store).faithful ≡ store.faithful
+begun_faithful first store =
+    begun_part (λ (s : StoreState). s.faithful) first store (is_called store) (nat_le first store.size) refl
 
-pub begins_not : (old : ControllerState) (u first : ℕ) → is_called_at old u ≡ false
-    → old ≡ with_none_ready old u first
-begins_not old u first called =
-    sym (ap (λ b. if b then with_store old u (store_begun first) else old) called)
+-- the unit with an image that C reads and writes, or another one
+begun_unit : (first : ℕ) (slot : Option (Option UnitState)) (called : Bool) → is_called_in slot ≡ called
+    → option_map (unit_with (called_begun first)) (unwrap_or slot None)
+    ≡ option_map (unit_with (λ (s : StoreState). if called then store_begun first s else s)) (unwrap_or slot None)
+begun_unit first (Some (Some unit)) called is =
+    ap (λ b. Some (record unit { store = if b then store_begun first unit.store else unit.store })) is
+begun_unit first (Some None) called is = refl
+begun_unit first None called is = refl
+
+begins_by : (old : ControllerState) (u first : ℕ) (called : Bool)
+    → with_store old u (λ (s : StoreState). if called then store_begun first s else s)
+    ≡ (if called then with_store old u (store_begun first) else old)
+begins_by old u first true = refl
+begins_by old u first false = nothing_changes old u
+
+pub begins : (old : ControllerState) (u first : ℕ) (new : ControllerState)
+    → new ≡ with_store old u (called_begun first) → new ≡ with_none_ready old u first
+begins old u first new goes =
+    let units = old.port.exec.units in
+    goes ∙ ap (λ (unit : Option UnitState).
+    record old { port = record old.port { exec = record old.port.exec { units = set units u unit } } })
+    (begun_unit first (slice_get units u) (is_called_at old u) refl) ∙ begins_by old u first (is_called_at old u)

@@ -19,11 +19,10 @@ use Rattle.uda_c.specs.declared.slot.Slot.{Slot}
 use Rattle.uda_called.specs.declared.lent.BorrowedBytes.{BorrowedBytes}
 use Rattle.uda_image.specs.Store.{StoreState}
 use Rattle.uda_c.specs.BorrowedImage.{IsWhole}
-use Rattle.uda_called.specs.CalledImage.{bytes_in}
 use Rattle.uda_c.specs.UnitImage.{lent_state, zero_state, bytes_of_store, status_of}
 use Rattle.uda_c.specs.Steps.{emptied}
 use Rattle.uda_c.specs.BlockRange.{AttachesCalled, size_answer}
-use Rattle.uda_c.specs.Slots.{empty_slot, lent_in, slot_of, is_empty, are_empty, TakesSlot}
+use Rattle.uda_c.specs.Slots.{empty_slot, bytes_of_slot, lent_in, slot_of, is_empty, are_empty, TakesSlot}
 use Rattle.uda_c.specs.Controllers.{Lending, Attaches, Detaches, MakesNew, OnHandle, GivesBack, Frees, image_answer, image_in, has_image, lent_drive, any_called}
 
 -- a unit that gets an image has it
@@ -84,9 +83,12 @@ pub is_left : (made : Result Unit CallStatus) (answer : CallStatus) (old new : O
 is_left (Ok done) answer old new fails is goes = inl (is, goes)
 is_left (Err status) answer old new fails is goes = inr ((λ done. fails (sym is ∙ done)), goes)
 
-pub bytes_taken : (lent : Option BorrowedBytes) (old new : Slot) → TakesSlot lent old new → bytes_in lent ≡ old.held
-bytes_taken (Some lent) old new took = ap (λ (l : BorrowedBytes). l.held) took.0
-bytes_taken None old new took = sym took.0
+pub bytes_taken : (lent : Option BorrowedBytes) (old new : Slot) → TakesSlot lent old new → lent ≡ bytes_of_slot old
+bytes_taken (Some lent) old new took =
+    ap (λ (l : BorrowedBytes). Some l) took.0
+    ∙ sym (ap (λ b. if b then None else Some (lent_in old)) (ne_eqb (length old.held) 0 took.1))
+bytes_taken None old new took =
+    sym (ap (λ (bytes : List ℕ). if length bytes == 0 then None else Some (lent_in old)) took.0)
 
 -- a slot whose bytes were taken is empty
 slot_taken : (lent : Option BorrowedBytes) (old new : Slot) → TakesSlot lent old new → new ≡ emptied old

@@ -6,6 +6,7 @@ pub mod RunLaws
 pub mod CalledUnits
 pub mod FailingUnits
 pub mod Lending
+pub mod LentBack
 pub mod FaithfulUnits
 pub mod ModeSteps
 pub mod FittingUnits

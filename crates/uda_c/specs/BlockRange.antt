@@ -1,7 +1,10 @@
 -- The blocks that the next turn uses of an image that C reads and writes, and how C makes them ready.
-use Rattle.std.specs.Prelude.{◌≡◌, ◌≢◌, ℕ, ◌+◌, ◌≤◌, ◌==◌, ◌/◌, ◌%◌, Bool, true, List, length, Option, Some, None}
-use Rattle.std.specs.Prelude.{nat_lt, slice_get, if◌then◌else◌}
+use Rattle.std.specs.Prelude.{◌≡◌, ◌≢◌, ℕ, ◌+◌, ◌≤◌, ◌==◌, ◌/◌, ◌%◌, Bool, true, length, Option, Some, None}
+use Rattle.std.specs.Prelude.{nat_lt, slice_get, option_map, if◌then◌else◌}
 use Rattle.uda_image.specs.Limits.{store_limit}
+use Rattle.uda_image.specs.Store.{LentBytes}
+use Rattle.uda_called.specs.CalledImage.{bytes_in, bytes_lent}
+use Rattle.uda_called.specs.declared.lent.BorrowedBytes.{BorrowedBytes}
 use Rattle.uda_exec.specs.declared.block_use.BlockAccess.{BlockAccess}
 use Rattle.uda_exec.specs.declared.block_use.BlockAccess.TheVariants.{Reads, Checks, Writes}
 use Rattle.uda_exec.specs.declared.block_use.BlockUse.{BlockUse}
@@ -13,7 +16,7 @@ use Rattle.uda_c.specs.declared.call_status.CallStatus.TheVariants.{Done, NoSuch
 use Rattle.uda_c.specs.ControllerState.{ControllerState}
 use Rattle.uda_c.specs.Controllers.{controller_with, has_image, unit_answer, is_called_at, with_store}
 use Rattle.uda_disk.specs.Units.{UnitState}
-use Rattle.uda_c.specs.UnitImage.{store_lent, zero_state, store_begun, lend_answer, allow_answer, store_prepared, ReadyAnswer}
+use Rattle.uda_c.specs.UnitImage.{store_lent, lent_from, zero_state, store_begun, lend_answer, allow_answer, store_prepared, ReadyAnswer}
 
 -- the number of a use in C
 abbrev pub access_code : BlockAccess → ℕ
@@ -70,6 +73,26 @@ with_none_ready c unit first = if is_called_at c unit then with_store c unit (st
 abbrev pub blocks_dropped : ControllerState → BlockRange → ControllerState
 blocks_dropped c blocks = if blocks.count == 0 then c else with_none_ready c blocks.unit blocks.first
 
+-- ---- bytes that C has lent
+
+-- those of an image, if blocks can be made ready from this one on
+abbrev pub lent_in_unit : ℕ → Option (Option UnitState) → Option LentBytes
+lent_in_unit first (Some (Some unit)) = lent_from first unit.store
+lent_in_unit first _ = None
+
+abbrev pub lent_at : ControllerState → ℕ → ℕ → Option LentBytes
+lent_at c unit first = lent_in_unit first (slice_get c.port.exec.units unit)
+
+-- those of blocks that are used in this way: only blocks that are read have any
+abbrev pub lent_by : Option BlockAccess → Option LentBytes → Option LentBytes
+lent_by (Some Reads) lent = lent
+lent_by _ lent = None
+
+-- those that C has lent for these blocks
+abbrev pub lent_for : ControllerState → BlockRange → Option LentBytes
+lent_for c blocks =
+    if blocks.count == 0 then None else lent_by (access_numbered blocks.access) (lent_at c blocks.unit blocks.first)
+
 -- ---- blocks that C makes ready
 
 -- the number of blocks of a unit's image
@@ -90,15 +113,18 @@ abbrev pub allow_answer_in : Prepared → ℕ → Option (Option UnitState) → 
 allow_answer_in prepared count (Some (Some unit)) = allow_answer prepared count unit.store
 allow_answer_in prepared count _ = NotAttached
 
--- blocks of a unit's image are lent from one on: they are whole blocks of it; or nothing changes
-pub record LendsBlocks (old : ControllerState) (place : ℕ × ℕ) (from : List ℕ) (answer : CallStatus)
+-- blocks of a unit's image are lent from one on: they are whole blocks of it, and the image has the bytes; or nothing
+-- changes
+pub record LendsBlocks (old : ControllerState) (place : ℕ × ℕ) (from : Option BorrowedBytes) (answer : CallStatus)
     (new : ControllerState) : Type 0 where
   pub no_image : unit_answer old place.0 ≢ Done → answer ≡ unit_answer old place.0
   pub kind : unit_answer old place.0 ≡ Done → ReadyAnswer (is_called_at old place.0) answer
   pub answers : unit_answer old place.0 ≡ Done
-      → answer ≡ lend_answer_in place.1 (length from) (slice_get old.port.exec.units place.0)
-  pub fits : answer ≡ Done → (length from % 512 ≡ 0) × (place.1 + length from / 512 ≤ size_at old place.0)
+      → answer ≡ lend_answer_in place.1 (length (bytes_in from)) (slice_get old.port.exec.units place.0)
+  pub fits : answer ≡ Done
+      → (length (bytes_in from) % 512 ≡ 0) × (place.1 + length (bytes_in from) / 512 ≤ size_at old place.0)
   pub lent : answer ≡ Done → new ≡ with_store old place.0 (store_lent true place.1 from)
+  pub has : answer ≡ Done → lent_at new place.0 place.1 ≡ option_map bytes_lent from
   pub refused : answer ≢ Done → new ≡ old
 
 -- the next blocks of a unit's image are ready, which C prepared in this way: the image has as many; or nothing changes

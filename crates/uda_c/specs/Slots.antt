@@ -1,6 +1,7 @@
 -- The image in a struct of C: bytes, or none.
-use Rattle.std.specs.Prelude.{◌≡◌, ◌≢◌, [], length, Bool, ◌==◌, ◌&&◌, Option, Some, None}
+use Rattle.std.specs.Prelude.{◌≡◌, ◌≢◌, [], length, Bool, ◌==◌, ◌&&◌, if◌then◌else◌, Option, Some, None}
 use denote.RawPtr.{null_ptr}
+use Rattle.uda_image.specs.Store.{LentBytes}
 use Rattle.uda_called.specs.declared.lent.BorrowedBytes.{BorrowedBytes}
 use Rattle.uda_c.specs.declared.slot.Slot.{Slot}
 use Rattle.uda_c.specs.declared.unit_images.UnitImages.{UnitImages}
@@ -19,6 +20,15 @@ are_empty s = is_empty s.unit_0 && is_empty s.unit_1 && is_empty s.unit_2 && is_
 -- the bytes of a slot
 abbrev pub lent_in : Slot → BorrowedBytes
 lent_in s = record { at = s.at; len = s.len; held = s.held }
+
+-- the bytes of a slot, if there are any
+abbrev pub bytes_of_slot : Slot → Option BorrowedBytes
+bytes_of_slot s = if is_empty s then None else Some (lent_in s)
+
+-- a slot into which these bytes were put back, if there are any
+abbrev pub slot_with : Option LentBytes → Slot → Slot
+slot_with (Some lent) s = record { at = lent.at; len = lent.count; held = lent.values }
+slot_with None s = s
 
 -- all bytes of a slot were removed, and it is empty; or there were none, and it is unchanged
 abbrev pub TakesSlot : Option BorrowedBytes → Slot → Slot → Type 0

@@ -2,6 +2,7 @@
 use Rattle.std.specs.Prelude.{◌≡◌, ◌≢◌, ℕ, ◌+◌, ◌*◌, ◌%◌, ◌^◌, ◌≤◌, ◌==◌, ◌&&◌, ◌↔◌, nat_lt, Bool, true, false}
 use Rattle.std.specs.Prelude.{List, length, Option, Some, None, if◌then◌else◌}
 use Rattle.uda_mem.specs.Ranges.{EMPTY_RANGE}
+use Rattle.uda_image.specs.Store.{LentBytes}
 use Rattle.uda_mem.specs.Put.{part}
 use Rattle.uda_mem.specs.Slices.{IsMemory}
 use Rattle.uda_exec.specs.declared.block_use.BlockAccess.{BlockAccess}
@@ -19,7 +20,7 @@ use Rattle.uda_c.specs.BlockRange.{NO_BLOCKS, range_reported, access_numbered, b
 use Rattle.uda_c.specs.BlockRange.{LendsBlocks, AllowsBlocks}
 use Rattle.uda_c.specs.ControllerState.{ControllerState}
 use Rattle.uda_c.specs.Controllers.{memory_refusal, closed}
-use Rattle.uda_c.specs.Slots.{is_empty, empty_slot}
+use Rattle.uda_c.specs.Slots.{is_empty, empty_slot, bytes_of_slot, slot_with}
 use Rattle.uda_c.specs.TurnUse.{missing_of, missing_before_body, IsPlaceOf, TakesTurnAt}
 
 -- the number of bytes of the struct in C
@@ -150,14 +151,14 @@ GetsWritten c memory asked answer copied =
 abbrev pub has_bytes : TurnUse → Bool
 has_bytes turn = if turn.blocks.access == 1 then length turn.lent.held == 512 * turn.ready else true
 
--- the struct without the bytes that C has lent
-abbrev pub without_lent : TurnUse → TurnUse
-without_lent turn = record turn { lent = emptied turn.lent }
+-- the struct with bytes that C has lent, if there are any
+abbrev pub given_back : Option LentBytes → TurnUse → TurnUse
+given_back lent turn = record turn { lent = slot_with lent turn.lent }
 
 -- the first `ready` blocks of the struct are made ready, in the way of this use, of an image of which none was
 abbrev pub MakesBlocksReady : Option BlockAccess → ControllerState → TurnUse → CallStatus → ControllerState → Type 0
 MakesBlocksReady (Some Reads) c turn answer new =
-    LendsBlocks c (turn.blocks.unit, turn.blocks.first) turn.lent.held answer new
+    LendsBlocks c (turn.blocks.unit, turn.blocks.first) (bytes_of_slot turn.lent) answer new
 MakesBlocksReady (Some Checks) c turn answer new = AllowsBlocks c (turn.blocks.unit, turn.ready) Checked answer new
 MakesBlocksReady (Some Writes) c turn answer new = AllowsBlocks c (turn.blocks.unit, turn.ready) Written answer new
 MakesBlocksReady None c turn answer new = (answer ≡ Done) × (new ≡ c)
@@ -173,15 +174,15 @@ pub record MakesReady (old : ControllerState) (turn : TurnUse) (answer : CallSta
   pub made : nat_lt turn.blocks.count turn.ready ≡ false → has_bytes turn ≡ true → turn.blocks.count ≢ 0
       → MakesBlocksReady (access_numbered turn.blocks.access) (blocks_dropped old turn.blocks) turn answer new
 
--- A turn over a window. First the struct's ready blocks are made ready, and what C has lent is taken out of the struct.
--- After it none of them is ready. If they can't be made ready, there is no turn, and the struct stays.
+-- A turn over a window, of which the struct's ready blocks are first made ready. After it none of them is, and the bytes
+-- that C has lent are in the struct, as they were. If they can't be made ready, there is no turn, and the struct stays.
 pub record TurnsWithBlocks (before : ControllerState × List ℕ) (asked : TurnUse) (answer : CallStatus)
     (filled : TurnUse) (after : ControllerState × List ℕ) : Type 0 where
   pub made : CallStatus
   pub ready : ControllerState
   pub between : ControllerState
   pub makes : MakesReady before.0 asked made ready
-  pub turns : made ≡ Done → TakesTurnAt (closed ready, before.1) (without_lent asked) answer filled (between, after.1)
+  pub turns : made ≡ Done → TakesTurnAt (closed ready, before.1) asked answer filled (between, after.1)
   pub dropped : made ≡ Done → after.0 ≡ blocks_dropped between asked.blocks
   pub refused : made ≢ Done → (answer ≡ made) × ((filled ≡ asked) × (after ≡ (ready, before.1)))
 

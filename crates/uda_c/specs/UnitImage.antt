@@ -2,9 +2,10 @@
 use Rattle.std.specs.Prelude.{◌≡◌, ◌⊎◌, ℕ, nat_le, ◌&&◌, not, Bool, true, false, List, Option, Some, None, is_none, option_map, Result, Ok, Err}
 use Rattle.std.specs.Prelude.{if◌then◌else◌}
 use Rattle.std.specs.List.{concat}
-use Rattle.uda_image.specs.Store.{StoreState, ReadyBlocks}
+use Rattle.uda_image.specs.Store.{StoreState, ReadyBlocks, LentBytes, lent_bytes}
 use Rattle.uda_disk.specs.Units.{UnitState}
 use Rattle.uda_called.specs.CalledImage.{called_state, zero_image, none_ready, can_lend, with_blocks_lent}
+use Rattle.uda_called.specs.declared.lent.BorrowedBytes.{BorrowedBytes}
 use Rattle.uda_called.specs.CalledImage.{can_check, can_allow, ready_checked, ready_writable}
 use Rattle.uda_c.specs.declared.call_status.CallStatus.{CallStatus}
 use Rattle.uda_c.specs.declared.call_status.CallStatus.TheVariants.{Done, BadLength, OtherKind}
@@ -47,7 +48,7 @@ store_failing call store = record store {
 }
 
 -- the store after these bytes were lent from this block on, if that was done
-abbrev pub store_lent : Bool → ℕ → List ℕ → StoreState → StoreState
+abbrev pub store_lent : Bool → ℕ → Option BorrowedBytes → StoreState → StoreState
 store_lent true first from store = with_blocks_lent first from store
 store_lent false first from store = store
 
@@ -75,6 +76,10 @@ store_begun first store =
 -- the same of an image that C reads and writes; another one stays as it is
 abbrev pub called_begun : ℕ → StoreState → StoreState
 called_begun first store = if is_called store then store_begun first store else store
+
+-- the bytes that C has lent to an image, if blocks can be made ready from this one on
+abbrev pub lent_from : ℕ → StoreState → Option LentBytes
+lent_from first store = if nat_le first store.size then lent_bytes store else None
 
 -- the status of lending as many bytes from this block on
 abbrev pub lend_answer : ℕ → ℕ → StoreState → CallStatus

@@ -1,13 +1,13 @@
 //! Images that C reads and writes by calls of its own, and the blocks of them that a turn uses.
-ghost use Rattle.std.specs.Prelude.{◌≡◌, ◌≢◌, ◌⊎◌, ◌+◌, ◌*◌, ◌≤◌, length, Some, None};
+ghost use Rattle.std.specs.Prelude.{◌≡◌, ◌≢◌, ◌⊎◌, ◌+◌, ◌*◌, ◌≤◌, length, option_map, Some, None};
 ghost use Rattle.uda_image.specs.Limits.{store_limit};
 ghost use Rattle.uda_mem.specs.Slices.{IsMemory};
 ghost use Rattle.uda_c.specs.declared.call_status.CallStatus.TheVariants.{Done};
 ghost use Rattle.uda_c.specs.BlockRange.{AttachesCalled, LendsBlocks, AllowsBlocks, range_reported, with_none_ready};
-ghost use Rattle.uda_c.specs.BlockRange.{blocks_dropped};
-ghost use Rattle.uda_c.specs.BlockRange.{access_numbered};
-ghost use Rattle.uda_c.specs.Steps.{MakesReady, MakesBlocksReady, without_lent, emptied, GetsWritten, CopiesWritten};
-ghost use Rattle.uda_called.specs.CalledImage.{bytes_in};
+ghost use Rattle.uda_c.specs.BlockRange.{access_numbered, blocks_dropped, lent_at, lent_by, lent_for};
+ghost use Rattle.uda_c.specs.Slots.{bytes_of_slot};
+ghost use Rattle.uda_c.specs.Steps.{MakesReady, MakesBlocksReady, given_back, emptied, GetsWritten, CopiesWritten};
+ghost use Rattle.uda_called.specs.CalledImage.{bytes_lent};
 ghost use Rattle.uda_port.specs.BlockUse.{blocks_of};
 ghost use Rattle.uda_port.specs.Plan.{IsPlan};
 ghost use Rattle.uda_c.specs.UnitImage.{status_of};
@@ -77,11 +77,11 @@ impl Controller {
         }
     }
 
-    /// Makes only those of the turn's blocks ready that C has moved, and takes the bytes that it has lent. Fails if
-    /// there are fewer, or other bytes. Then it takes none.
+    /// Makes only those of the turn's blocks ready that C has moved, and lends the image the bytes that C has lent, if the
+    /// turn reads them. Fails if there are fewer, or other bytes. Then it lends none.
     pub(crate) fn make_ready(&mut self, turn: &mut TurnUse) -> CallStatus
         ensures ready { MakesReady self.old turn.old result self.new }
-        ensures taken { result ≡ Done → turn.new ≡ without_lent turn.old }
+        ensures lent { result ≡ Done → turn.old ≡ given_back (lent_for self.new turn.new.blocks) turn.new }
         ensures refused { result ≢ Done → turn.new ≡ turn.old }
     {
         let blocks = turn.blocks;
@@ -90,67 +90,79 @@ impl Controller {
             return CallStatus::BadLength;
         }
         if blocks.count == 0 {
-            turn.forget_lent();
             return CallStatus::Done;
         }
-        self.drop_blocks(blocks);
-        match self.make_blocks_ready(turn) {
-            CallStatus::Done => {
-                turn.forget_lent();
-                CallStatus::Done
-            }
-            refusal => refusal,
-        }
+        self.make_blocks_ready(turn)
     }
 
-    // Makes the turn's first blocks ready, as many as C has moved, of an image of which none is ready.
+    // Makes the turn's first blocks ready, as many as C has moved, and no others of that image.
     fn make_blocks_ready(&mut self, turn: &mut TurnUse) -> CallStatus
-        ensures ready { MakesBlocksReady (access_numbered turn.old.blocks.access) self.old turn.old result self.new }
-        ensures rest { without_lent turn.new ≡ without_lent turn.old }
+        ensures ready { MakesBlocksReady (access_numbered turn.old.blocks.access)
+            (with_none_ready self.old turn.old.blocks.unit turn.old.blocks.first) turn.old result self.new }
+        ensures lent { result ≡ Done → turn.old ≡ given_back (lent_by (access_numbered turn.new.blocks.access)
+            (lent_at self.new turn.new.blocks.unit turn.new.blocks.first)) turn.new }
         ensures refused { result ≢ Done → turn.new ≡ turn.old }
     {
         let blocks = turn.blocks;
         let ready = turn.ready;
         match blocks.use_of() {
             Some(BlockAccess::Reads) => self.lend_slot(blocks, &mut turn.lent),
-            Some(BlockAccess::Checks) => self.allow_blocks(blocks.unit, Prepared::Checked, ready),
-            Some(BlockAccess::Writes) => self.allow_blocks(blocks.unit, Prepared::Written, ready),
-            None => CallStatus::Done,
+            Some(BlockAccess::Checks) => {
+                self.begin(blocks.unit, blocks.first);
+                self.allow_blocks(blocks.unit, Prepared::Checked, ready)
+            }
+            Some(BlockAccess::Writes) => {
+                self.begin(blocks.unit, blocks.first);
+                self.allow_blocks(blocks.unit, Prepared::Written, ready)
+            }
+            None => {
+                self.begin(blocks.unit, blocks.first);
+                CallStatus::Done
+            }
         }
     }
 
-    /// Drops what is ready of the image of these blocks, if there are any.
-    pub(crate) fn drop_blocks(&mut self, blocks: BlockRange)
+    /// Drops what is ready of the image of these blocks, if there are any. Returns the bytes that C has lent for them.
+    pub(crate) fn drop_blocks(&mut self, blocks: BlockRange) -> Option<BorrowedBytes>
         ensures dropped { self.new ≡ blocks_dropped self.old blocks }
+        ensures lent { option_map bytes_lent result ≡ lent_for self.old blocks }
     {
         if blocks.count != 0 {
-            self.begin(blocks.unit, blocks.first);
+            let lent = self.begin(blocks.unit, blocks.first);
+            if let Some(BlockAccess::Reads) = blocks.use_of() {
+                return lent;
+            }
         }
+        None
     }
 
-    // Drops what is ready of a unit's image, if C reads and writes it. Blocks are made ready from block `first` on
-    // then.
-    fn begin(&mut self, unit: u32, first: u32)
+    // Drops what is ready of a unit's image, if C reads and writes it, and returns the bytes that C has lent. Blocks are
+    // made ready from block `first` on then.
+    fn begin(&mut self, unit: u32, first: u32) -> Option<BorrowedBytes>
         ensures begun { self.new ≡ with_none_ready self.old unit first }
+        ensures lent { option_map bytes_lent result ≡ lent_at self.old unit first }
     {
         let unit = unit as usize;
         let Some(look) = self.port.unit(unit) else {
-            return;
+            return None;
         };
-        if !self.is_called(unit) {
-            return;
-        }
-        if let Some(Drive { store, hard }) = self.port.exchange_drive(unit, None) {
-            let mut store = store;
-            store.begin(first);
-            put_back(&mut self.port, unit, Drive { store, hard }, look.mode);
+        match self.port.exchange_drive(unit, None) {
+            Some(Drive { store, hard }) => {
+                let mut store = store;
+                let lent = store.begin(first);
+                put_back(&mut self.port, unit, Drive { store, hard }, look.mode);
+                lent
+            }
+            None => None,
         }
     }
 
-    // Lends the bytes of a slot as those of blocks from the first of these on. If it fails, they remain in the slot.
+    // Lends the bytes of a slot as those of blocks from the first of these on, of an image of which none is ready then. If
+    // it fails, they remain in the slot.
     #[tactic(auto, using(crate::proofs::Lending::bytes_taken))]
     fn lend_slot(&mut self, blocks: BlockRange, slot: &mut Slot) -> CallStatus
-        ensures lends { LendsBlocks self.old (blocks.unit, blocks.first) slot.old.held result self.new }
+        ensures lends { LendsBlocks (with_none_ready self.old blocks.unit blocks.first) (blocks.unit, blocks.first)
+            (bytes_of_slot slot.old) result self.new }
         ensures taken { (result ≡ Done) × (slot.new ≡ emptied slot.old) ⊎ (result ≢ Done) × (slot.new ≡ slot.old) }
     {
         let mut lent = slot.take();
@@ -191,11 +203,13 @@ impl Controller {
         }
     }
 
-    // Lends bytes as those of blocks of a unit's image from block `first` on. If it fails, it takes none.
+    // Drops what is ready of a unit's image, and lends bytes as those of its blocks from block `first` on. If it fails, it
+    // takes none.
     fn lend_blocks(&mut self, unit: u32, first: u32, from: &mut Option<BorrowedBytes>) -> CallStatus
-        ensures lends { LendsBlocks self.old (unit, first) (bytes_in from.old) result self.new }
+        ensures lends { LendsBlocks (with_none_ready self.old unit first) (unit, first) from.old result self.new }
         ensures taken { (result ≡ Done) × (from.new ≡ None) ⊎ (result ≢ Done) × (from.new ≡ from.old) }
     {
+        self.keep();
         let unit = unit as usize;
         if unit > 3 {
             return CallStatus::NoSuchUnit;
@@ -206,6 +220,7 @@ impl Controller {
         match self.port.exchange_drive(unit, None) {
             Some(Drive { store, hard }) => {
                 let mut store = store;
+                store.begin(first);
                 let lent = store.lend(first, from);
                 put_back(&mut self.port, unit, Drive { store, hard }, look.mode);
                 status_of(lent)

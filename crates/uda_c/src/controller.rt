@@ -562,7 +562,9 @@ impl Controller {
             CallStatus::Done => {
                 self.close();
                 let answer = self.take_turn_at(memory, turn);
-                self.drop_blocks(turn.blocks);
+                if let Some(lent) = self.drop_blocks(turn.blocks) {
+                    turn.lent.put(lent);
+                }
                 answer
             }
             refusal => refusal,

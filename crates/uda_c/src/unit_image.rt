@@ -4,10 +4,10 @@ ghost use Rattle.std.specs.Prelude.{IfOk, IfErr, IfSome, IsOk, is_ok, is_some, n
 ghost use Rattle.std.specs.List.{concat};
 ghost use Rattle.uda_image.specs.AtOnce.{TriesToRead, TriesToWrite, ChecksBlocks};
 ghost use Rattle.uda_image.specs.Store.{Reads, Writes, KeepsAttributes, is_sound};
-ghost use Rattle.uda_called.specs.CalledImage.{zero_image, bytes_in};
+ghost use Rattle.uda_called.specs.CalledImage.{zero_image, bytes_in, bytes_lent};
 ghost use Rattle.uda_c.specs.BorrowedImage.{IsWhole};
 ghost use Rattle.uda_c.specs.UnitImage.{unit_state, is_called, bytes_of_store, store_failing, store_lent, ReadyAnswer, status_of};
-ghost use Rattle.uda_c.specs.UnitImage.{called_begun, lend_answer, allow_answer, store_prepared};
+ghost use Rattle.uda_c.specs.UnitImage.{called_begun, lent_from, lend_answer, allow_answer, store_prepared};
 ghost use Rattle.uda_c.specs.UnitImage.{zero_state, lent_state};
 ghost use Rattle.uda_c.specs.UnitImageLaws.{within_limit_of, whole_blocks_of};
 ghost use Rattle.uda_image.specs.Limits.{store_limit};
@@ -85,24 +85,32 @@ impl UnitImage {
         }
     }
 
-    /// Drops what is ready of blocks that C reads and writes. Those that are made ready next are those from this one
-    /// on. Does nothing if the image has fewer blocks.
-    pub fn begin(&mut self, first: u32)
+    /// Drops what is ready of blocks that C reads and writes, and returns the bytes that C has lent. Those that are made
+    /// ready next are those from this one on. Does nothing if the image has fewer blocks.
+    pub fn begin(&mut self, first: u32) -> Option<BorrowedBytes>
         ensures state { unit_state self.new ≡ called_begun first (unit_state self.old) }
+        ensures given_back { option_map bytes_lent result ≡ lent_from first (unit_state self.old) }
     {
-        if let UnitImage::Called(image) = self {
-            image.begin(first);
+        let UnitImage::Called(image) = self else {
+            return None;
+        };
+        if first > image.size() {
+            return None;
         }
+        let lent = image.give_back();
+        image.begin(first);
+        lent
     }
 
     /// Takes bytes that C lends, as those of blocks from this one on. If it fails, it takes none.
     pub fn lend(&mut self, first: u32, from: &mut Option<BorrowedBytes>) -> Result<(), CallStatus>
         ensures state { unit_state self.new
-            ≡ store_lent (is_ok result) first (bytes_in from.old) (unit_state self.old) }
+            ≡ store_lent (is_ok result) first from.old (unit_state self.old) }
         ensures answer { status_of result ≡ lend_answer first (length (bytes_in from.old)) (unit_state self.old) }
         ensures kind { ReadyAnswer (is_called (unit_state self.old)) (status_of result) }
         ensures fits { IfOk result (λ _. (length (bytes_in from.old) % 512 ≡ 0)
             × (first + length (bytes_in from.old) / 512 ≤ (unit_state self.old).size)) }
+        ensures has { IfOk result (λ _. lent_from first (unit_state self.new) ≡ option_map bytes_lent from.old) }
         ensures refused { IfErr result (λ status. status ≢ Done) }
         ensures taken { from.new ≡ (if is_ok result then None else from.old) }
     {

@@ -1,7 +1,7 @@
 -- The laws of images that a program reads and writes by calls of its own.
-use Rattle.std.proofs.Common.{◌≡◌, ◌+◌, ◌-◌, ◌*◌, ◌/◌, ◌%◌, ◌<◌, ◌≤◌, ℕ, List, [], length, take, drop, replicate, Some, refl, sym, ap, ap₂, ◌∙◌, arith}
+use Rattle.std.proofs.Common.{◌≡◌, ◌+◌, ◌-◌, ◌*◌, ◌/◌, ◌%◌, ◌<◌, ◌≤◌, ℕ, List, [], length, take, drop, replicate, Option, Some, refl, sym, ap, ap₂, ◌∙◌, arith}
 use Rattle.std.specs.Prelude.{slice_set}
-use Rattle.std.proofs.lemmas.List.{set-get_or, take-take, drop-take, drop-drop, take-replicate, length-replicate}
+use Rattle.std.proofs.lemmas.List.{set-get_or, take-take, take_all, drop-take, drop-drop, take-replicate, length-take, length-replicate}
 use Rattle.std.proofs.lemmas.Option.{get_or_from_slice_get}
 use Rattle.uda_mem.specs.Put.{put, part}
 use Rattle.uda_mem.proofs.PutLaws.{length-put, length-part-le, part-put_at}
@@ -13,7 +13,8 @@ use Rattle.uda_image.specs.Store.{KeepsAttributes, ReadsBlock, WritesBlock, Fail
 use Rattle.uda_image.proofs.AtOnceLaws.{block_count-put, blocks_of-put, concat-part_blocks}
 use Rattle.uda_image.proofs.FileSteps.{block_within, put-is-with_block}
 use Rattle.uda_image.proofs.ImageLaws.{slice_get-blocks_of, blocks_of-with_block, length-block_of}
-use Rattle.uda_called.specs.CalledImage.{CalledBlocks, called_state, IsKept, none_ready, with_lent, with_blocks_lent, with_used, with_written, with_failure, zero_image}
+use Rattle.uda_called.specs.declared.lent.BorrowedBytes.{BorrowedBytes}
+use Rattle.uda_called.specs.CalledImage.{CalledBlocks, called_state, IsKept, none_ready, bytes_in, with_lent, with_blocks_lent, unlent, with_used, with_written, with_failure, zero_image}
 
 -- nothing is ready
 pub kept_begun : (size : ℕ) (lent : List ℕ) (image : CalledBlocks) (first : ℕ) → IsKept size lent image
@@ -42,9 +43,9 @@ kept_used size lent image n is there = record {
   lent_is = is.lent_is;
 }
 
--- bytes were written, and nothing is lent
+-- bytes were written, and no block is lent
 pub kept_written : (size : ℕ) (lent : List ℕ) (image : CalledBlocks) (n count : ℕ) (from : List ℕ)
-    → IsKept size lent image → image.ready.next ≤ n → IsKept size [] (with_written n count from image)
+    → IsKept size lent image → image.ready.next ≤ n → IsKept size lent (with_written n count from image)
 unfolding part
 kept_written size lent image n count from is there = record {
   size_is = is.size_is ∙ sym (block_count-put image.bytes (512 * n) from);
@@ -56,11 +57,28 @@ kept_written size lent image n count from is there = record {
   lent_is = refl;
 }
 
+-- the bytes were given back
+pub kept_unlent : (size : ℕ) (lent : List ℕ) (image : CalledBlocks) → IsKept size lent image
+    → IsKept size [] (unlent image)
+unfolding part
+kept_unlent size lent image is = record {
+  size_is = is.size_is;
+  whole = is.whole;
+  ordered = is.ordered;
+  lent_within = omega (arith, is.lent_within);
+  checked_within = is.checked_within;
+  writable_within = is.writable_within;
+  lent_is = refl;
+}
+
 -- the blocks of these bytes are lent
-pub kept_lent : (size : ℕ) (lent : List ℕ) (image : CalledBlocks) (from : List ℕ) → IsKept size lent image
-    → length from % 512 ≡ 0 → image.ready.first + length from / 512 ≤ size
-    → IsKept size from (with_lent image.ready.first from image)
-kept_lent size lent image from is whole room =
+pub kept_lent : (size : ℕ) (lent : List ℕ) (image : CalledBlocks) (some : Option BorrowedBytes)
+    → IsKept size lent image → length (bytes_in some) % 512 ≡ 0
+    → image.ready.first + length (bytes_in some) / 512 ≤ size
+    → IsKept size (bytes_in some) (with_lent image.ready.first some image)
+unfolding part
+kept_lent size lent image some is whole room =
+    let from = bytes_in some in
     let at = 512 * image.ready.first in
     let size_is : 512 * (length from / 512) ≡ length from = omega (arith, whole) in
     let inside : at + length from ≤ length image.bytes = omega (arith, whole, room, is.whole) in
@@ -72,7 +90,8 @@ kept_lent size lent image from is whole room =
       lent_within = room;
       checked_within = is.checked_within;
       writable_within = is.writable_within;
-      lent_is = sym (ap (part bytes at) size_is ∙ part-put_at image.bytes at (length from) from inside refl);
+      lent_is = ap (λ n. take n from) size_is ∙ take_all (length from) from (omega arith)
+          ∙ sym (ap (part bytes at) size_is ∙ part-put_at image.bytes at (length from) from inside refl);
     }
 
 -- a new image: what follows from no calls is zeros
@@ -110,10 +129,13 @@ part-part xs at n i m within =
     ∙ ap (take m) (drop-drop i at xs)
 
 pub length_lent : (size : ℕ) (lent : List ℕ) (image : CalledBlocks) → IsKept size lent image
-    → length lent ≡ 512 * image.ready.lent
+    → 512 * image.ready.lent ≤ length lent
+unfolding part
 length_lent size lent image is =
+    let long : length (take (512 * image.ready.lent) lent) ≡ 512 * image.ready.lent =
     ap length is.lent_is ∙ length-part-le image.bytes (512 * image.ready.first) (512 * image.ready.lent)
-    (omega (arith, is.whole, is.lent_within))
+    (omega (arith, is.whole, is.lent_within)) in
+    omega (arith, long, length-take (512 * image.ready.lent) lent)
 
 -- lent blocks
 pub lent_part : (size : ℕ) (lent : List ℕ) (image : CalledBlocks) (n count : ℕ) → IsKept size lent image
@@ -121,7 +143,9 @@ pub lent_part : (size : ℕ) (lent : List ℕ) (image : CalledBlocks) (n count :
     → part lent (512 * (n - image.ready.first)) (512 * count) ≡ part image.bytes (512 * n) (512 * count)
 lent_part size lent image n count is from to =
     let at = 512 * (n - image.ready.first) in
-    ap (λ (b : List ℕ). part b at (512 * count)) is.lent_is
+    ap (λ i. part lent i (512 * count)) (omega arith)
+    ∙ sym (part-part lent 0 (512 * image.ready.lent) at (512 * count) (omega (arith, to)))
+    ∙ ap (λ (b : List ℕ). part b at (512 * count)) is.lent_is
     ∙ part-part image.bytes (512 * image.ready.first) (512 * image.ready.lent) at (512 * count) (omega (arith, to))
     ∙ ap (λ i. part image.bytes i (512 * count)) (omega (arith, from))
 
@@ -168,6 +192,7 @@ module _ (image : CalledBlocks) (n : ℕ) where
     faithful_stays = refl;
     honest_before = λ h. h;
     never_fails_stays = refl;
+    lent_stays = refl;
   }
 
   pub writes_one : n < block_count_of image.bytes → (from : List ℕ) → length from ≡ 512
@@ -191,10 +216,11 @@ module _ (image : CalledBlocks) (n : ℕ) where
   }
 
 -- the store after blocks were lent
-pub lent_blocks : (image : CalledBlocks) (first : ℕ) (from : List ℕ) → length from % 512 ≡ 0
-    → first + length from / 512 ≤ block_count_of image.bytes
-    → called_state (with_lent first from image) ≡ with_blocks_lent first from (called_state image)
-lent_blocks image first from whole room =
-    ap₂ (λ (b : List (List ℕ)) size. record (called_state (with_lent first from image)) { blocks = b; size = size })
+pub lent_blocks : (image : CalledBlocks) (first : ℕ) (some : Option BorrowedBytes) → length (bytes_in some) % 512 ≡ 0
+    → first + length (bytes_in some) / 512 ≤ block_count_of image.bytes
+    → called_state (with_lent first some image) ≡ with_blocks_lent first some (called_state image)
+lent_blocks image first some whole room =
+    let from = bytes_in some in
+    ap₂ (λ (b : List (List ℕ)) size. record (called_state (with_lent first some image)) { blocks = b; size = size })
     (blocks_of-put image.bytes first (length from / 512) from room (omega (arith, whole)))
     (block_count-put image.bytes (512 * first) from)

@@ -7,7 +7,7 @@ use Rattle.uda_mem.specs.Put.{put, part}
 use Rattle.uda_image.specs.Image.{block_count_of, blocks_of}
 use Rattle.uda_image.specs.File.{Holding, holding_after}
 use Rattle.uda_image.specs.FileCall.{written}
-use Rattle.uda_image.specs.Store.{StoreState, ReadyBlocks}
+use Rattle.uda_image.specs.Store.{StoreState, ReadyBlocks, LentBytes}
 use Rattle.uda_image.specs.declared.trace.FileTrace.{FileTrace}
 use Rattle.uda_called.specs.declared.image.Ready.{Ready}
 use Rattle.uda_called.specs.declared.lent.BorrowedBytes.{BorrowedBytes}
@@ -34,7 +34,7 @@ called_state image = record {
 
 -- no block is ready; the first that will be is this one
 abbrev pub none_ready : ℕ → ReadyBlocks
-none_ready first = record { first = first; next = first; lent = 0; checked = 0; writable = 0 }
+none_ready first = record { first = first; next = first; lent = 0; checked = 0; writable = 0; bytes = None }
 
 -- an image of zeros
 abbrev pub zero_image : ℕ → CalledBlocks
@@ -48,7 +48,11 @@ begun_at first image = record image { ready = none_ready first }
 abbrev pub has_room : ReadyBlocks → ℕ → ℕ → ℕ → Bool
 has_room ready size these count = nat_le (ready.first + these + count) size
 
--- the bytes that a program lends, of which there may be none
+-- the bytes that a program lends
+abbrev pub bytes_lent : BorrowedBytes → LentBytes
+bytes_lent lent = record { at = lent.at; count = lent.len; values = lent.held }
+
+-- the values of the bytes that a program lends, of which there may be none
 abbrev pub bytes_in : Option BorrowedBytes → List ℕ
 bytes_in (Some lent) = lent.held
 bytes_in None = []
@@ -60,23 +64,28 @@ can_lend ready size first bytes =
     nat_eq ready.lent 0
     && (nat_eq first ready.first && (nat_eq (bytes % 512) 0 && has_room ready size 0 (bytes / 512)))
 
--- so many blocks are lent
-abbrev pub ready_lent : ℕ → ReadyBlocks → ReadyBlocks
-ready_lent count ready = record ready { lent = count }
+-- the blocks of these bytes are lent
+abbrev pub ready_lent : Option BorrowedBytes → ReadyBlocks → ReadyBlocks
+ready_lent from ready =
+    record ready { lent = length (bytes_in from) / 512; bytes = option_map bytes_lent from }
 
 -- the blocks of these bytes are lent, from this one on
-abbrev pub with_lent : ℕ → List ℕ → CalledBlocks → CalledBlocks
+abbrev pub with_lent : ℕ → Option BorrowedBytes → CalledBlocks → CalledBlocks
 with_lent first from image = record image {
-  bytes = put image.bytes (512 * first) from;
-  ready = ready_lent (length from / 512) image.ready;
+  bytes = put image.bytes (512 * first) (bytes_in from);
+  ready = ready_lent from image.ready;
 }
 
 -- the store after that
-abbrev pub with_blocks_lent : ℕ → List ℕ → StoreState → StoreState
+abbrev pub with_blocks_lent : ℕ → Option BorrowedBytes → StoreState → StoreState
 with_blocks_lent first from store = record store {
-  blocks = put store.blocks first (first_chunks 512 (length from / 512) from);
-  ready = option_map (ready_lent (length from / 512)) store.ready;
+  blocks = put store.blocks first (first_chunks 512 (length (bytes_in from) / 512) (bytes_in from));
+  ready = option_map (ready_lent from) store.ready;
 }
+
+-- no bytes are lent
+abbrev pub unlent : CalledBlocks → CalledBlocks
+unlent image = record image { ready = record image.ready { lent = 0; bytes = None } }
 
 -- as many blocks follow those that are checked, or writable
 abbrev pub can_check : ReadyBlocks → ℕ → ℕ → Bool
@@ -110,7 +119,7 @@ with_used n image = record image { ready = record image.ready { next = n } }
 abbrev pub with_failure : CalledBlocks → CalledBlocks
 with_failure image = record image { failures = image.failures + 1 }
 
--- the image after count blocks from block n were written with these bytes: what was lent isn't any more
+-- the image after count blocks from block n were written with these bytes: no block is lent any more
 abbrev pub with_written : ℕ → ℕ → List ℕ → CalledBlocks → CalledBlocks
 with_written n count from image = record image {
   bytes = put image.bytes (512 * n) from;
@@ -132,24 +141,24 @@ holding_by size trace = holding_after size trace.held trace.blocks_left trace.ca
 abbrev pub noted_lent : ℕ → List ℕ → FileTrace → FileTrace
 noted_lent first bytes trace = record trace { calls = written first bytes ∷ trace.calls }
 
-abbrev pub ready_blocks : Ready → ReadyBlocks
-ready_blocks ready = record {
+abbrev pub ready_blocks : Ready → Option BorrowedBytes → ReadyBlocks
+ready_blocks ready lent = record {
   first = ready.first;
   next = ready.next;
   lent = ready.lent;
   checked = ready.checked;
   writable = ready.writable;
+  bytes = option_map bytes_lent lent;
 }
 
-abbrev pub image_by : ℕ → Ready → FileTrace → CalledBlocks
-image_by size ready trace = record {
+abbrev pub image_by : ℕ → Ready → Option BorrowedBytes → FileTrace → CalledBlocks
+image_by size ready lent trace = record {
   bytes = (holding_by size trace).bytes;
   failures = (holding_by size trace).failures;
-  ready = ready_blocks ready;
+  ready = ready_blocks ready lent;
 }
 
--- The ready blocks are on the unit, and the bytes that the program lends are those of the lent blocks. So if no block
--- is lent, the image owns no bytes of the program.
+-- The ready blocks are on the unit, and the lent blocks have the first of the bytes that the program lends.
 pub record IsKept (size : ℕ) (lent : List ℕ) (image : CalledBlocks) : Type 0 where
   pub size_is : size ≡ block_count_of image.bytes
   pub whole : length image.bytes ≡ 512 * size
@@ -157,4 +166,5 @@ pub record IsKept (size : ℕ) (lent : List ℕ) (image : CalledBlocks) : Type 0
   pub lent_within : image.ready.first + image.ready.lent ≤ size
   pub checked_within : image.ready.first + image.ready.checked ≤ size
   pub writable_within : image.ready.first + image.ready.writable ≤ size
-  pub lent_is : lent ≡ part image.bytes (512 * image.ready.first) (512 * image.ready.lent)
+  pub lent_is : part lent 0 (512 * image.ready.lent)
+      ≡ part image.bytes (512 * image.ready.first) (512 * image.ready.lent)

@@ -1,6 +1,6 @@
 //! Images that a program reads and writes by calls of its own.
 ghost use Rattle.std.specs.Prelude.{◌≡◌, ◌+◌, ◌*◌, ◌/◌, ◌%◌, ◌<◌, ◌≤◌, ◌^◌, ◌∷◌, true, false, length, None, IfErr};
-ghost use Rattle.std.specs.Prelude.{if◌then◌else◌, is_ok, is_some, nat_le, IfSome};
+ghost use Rattle.std.specs.Prelude.{if◌then◌else◌, is_ok, is_some, nat_le, IfSome, option_map};
 ghost use Rattle.uda_mem.specs.Put.{part};
 ghost use Rattle.uda_image.specs.AtOnce.{TriesToRead, TriesToWrite, ChecksBlocks};
 ghost use Rattle.uda_image.specs.Image.{block_count_of, block_of};
@@ -8,7 +8,7 @@ ghost use Rattle.uda_image.specs.Limits.{store_limit};
 ghost use Rattle.uda_image.specs.Store.{Reads, Writes, KeepsAttributes};
 ghost use Rattle.uda_image.specs.StoreLaws.{block_count-le, HasWholeBlocks-blocks_of};
 ghost use Rattle.uda_called.specs.CalledImage.{called_state, none_ready, zero_image, begun_at, can_lend, with_lent, with_blocks_lent};
-ghost use Rattle.uda_called.specs.CalledImage.{bytes_in, noted_lent};
+ghost use Rattle.uda_called.specs.CalledImage.{bytes_in, bytes_lent, noted_lent, unlent};
 ghost use Rattle.uda_called.specs.CalledImage.{can_check, can_allow, has_room, with_checked, with_writable, are_ready};
 ghost use Rattle.uda_called.specs.CalledImage.{with_failure, with_used, with_written, checked_from, ready_blocks};
 
@@ -42,7 +42,8 @@ struct Ready {
 pub struct CalledImage {
     size: u32,
     ready: Ready,
-    // The bytes of the lent blocks. They belong to the program again after a `begin` or a write.
+    // The bytes that the program lends, if there are any. The first of them are those of the lent blocks. No call of
+    // the store changes them.
     lent: Option<BorrowedBytes>,
     trace: FileTrace,
 }
@@ -52,16 +53,16 @@ impl Model for CalledImage {
 
     ghost Value = { CalledBlocks };
 
-    ghost view = { λ image. image_by image.size image.ready image.trace };
+    ghost view = { λ image. image_by image.size image.ready image.lent image.trace };
 
     ghost invariant = { λ image. IsKept image.size (bytes_in image.lent)
-        (image_by image.size image.ready image.trace) };
+        (image_by image.size image.ready image.lent image.trace) };
 }
 
 impl Ready {
     // Returns whether `count` blocks from block `n` are among the first `these` ready ones.
     fn has(self, these: u32, n: u32, count: u32) -> bool
-        ensures ready { result ≡ are_ready (ready_blocks self) these n count }
+        ensures ready { result ≡ are_ready (ready_blocks self None) these n count }
         ensures within { result ≡ true → (self.next ≤ n) × (n + count ≤ self.first + these) }
     {
         self.next <= n
@@ -121,15 +122,15 @@ impl CalledImage {
         };
     }
 
-    /// Takes bytes that the program lends, as those of blocks from block `first` on. The image owns them until the next
-    /// `begin` or write. Returns false and changes nothing if blocks are lent already, if `first` isn't
-    /// the first block that is made ready, if the bytes aren't whole blocks, or if the image has fewer.
+    /// Takes bytes that the program lends, as those of blocks from block `first` on. The image owns them until
+    /// `give_back`, `begin` or another `lend`. Returns false and changes nothing if blocks are lent already, if
+    /// `first` isn't the first block that is made ready, if the bytes aren't whole blocks, or if the image has fewer.
     pub fn lend(&mut self, first: u32, from: &mut Option<BorrowedBytes>) -> bool
         ensures fits { result ≡ can_lend self.old.ready (block_count_of self.old.bytes) first
             (length (bytes_in from.old)) }
-        ensures lent { self.new ≡ (if result then with_lent first (bytes_in from.old) self.old else self.old) }
+        ensures lent { self.new ≡ (if result then with_lent first from.old self.old else self.old) }
         ensures blocks { result ≡ true → called_state self.new
-            ≡ with_blocks_lent first (bytes_in from.old) (called_state self.old) }
+            ≡ with_blocks_lent first from.old (called_state self.old) }
         ensures within { result ≡ true → (length (bytes_in from.old) % 512 ≡ 0)
             × (first + length (bytes_in from.old) / 512 ≤ block_count_of self.old.bytes) }
         ensures taken { from.new ≡ (if result then None else from.old) }
@@ -142,6 +143,18 @@ impl CalledImage {
         self.ready.lent = (bytes / 512) as u32;
         self.lent = from.take();
         true
+    }
+
+    /// Gives back the bytes that the program lends, if there are any. No block is lent then.
+    pub fn give_back(&mut self) -> Option<BorrowedBytes>
+        ensures bytes { option_map bytes_lent result ≡ self.old.ready.bytes }
+        ensures unlent { self.new ≡ unlent self.old }
+    {
+        self.ready = Ready {
+            lent: 0,
+            ..self.ready
+        };
+        self.lent.take()
     }
 
     /// Makes the `count` blocks ready that follow the checked ones: they are readable. Returns false and changes
@@ -215,7 +228,6 @@ impl CalledImage {
         requires ready { self.old.ready.next ≤ n }
         ensures written { self.new ≡ with_written n count from.now self.old }
     {
-        self.lent = None;
         self.ready.lent = 0;
         self.ready.next = n + count;
         self.trace.note(&Call::Written {

@@ -1,7 +1,7 @@
 -- The units of a controller: each has a store of blocks and a mode. Requests see their disks. MSCP Basic
 -- Disk Functions Manual: unit states, write protection.
 use Rattle.std.specs.Prelude.{◌≡◌, ℕ, Bool, true, ◌&&◌, ◌||◌, List, Option, Some, None, map, option_map, slice_get, All}
-use Rattle.uda_image.specs.Store.{StoreState, NeverFails, HasWholeBlocks, is_sound}
+use Rattle.uda_image.specs.Store.{StoreState, NeverFails, LentBytes, HasWholeBlocks, is_sound, lent_bytes}
 use Rattle.uda_disk.specs.declared.mode.Mode.{Mode}
 use Rattle.uda_disk.specs.Disk.{Disk, Disks}
 
@@ -78,12 +78,13 @@ abbrev pub AreWellFormedIfSound : Units → Type 0
 AreWellFormedIfSound units = All IsWellFormedIfSound units
 
 -- the attributes that no request changes, whatever the store: the size, the hardware protection, whether
--- the store is faithful, and whether it never fails
+-- the store is faithful, whether it never fails, and the bytes that a program has lent to it
 pub record FixedAttributes : Type 0 where
   pub size : ℕ
   pub hard : Bool
   pub faithful : Bool
   pub never_fails : NeverFails
+  pub lent : Option LentBytes
 
 abbrev pub attributes_of : UnitState → FixedAttributes
 attributes_of unit = record {
@@ -91,6 +92,7 @@ attributes_of unit = record {
   hard = unit.mode.hard;
   faithful = unit.store.faithful;
   never_fails = unit.store.never_fails;
+  lent = lent_bytes unit.store;
 }
 
 abbrev pub unit_attributes : Units → List (Option FixedAttributes)

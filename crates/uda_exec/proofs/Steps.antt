@@ -158,6 +158,7 @@ both_natures was is = record {
   faithful_stays = is.faithful_stays ∙ was.faithful_stays;
   honest_before = λ honest. was.honest_before (is.honest_before honest);
   never_fails_stays = is.never_fails_stays ∙ was.never_fails_stays;
+  lent_stays = is.lent_stays ∙ was.lent_stays;
 }
 
 module _ {t : Transfer} {k : ℕ} {old now : StoreState} {memory memory_now : List ℕ}

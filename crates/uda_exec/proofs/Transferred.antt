@@ -269,7 +269,12 @@ module _ (c : Command) (t : Transfer) (unit : UnitState) (memory : List ℕ)
         asked _ _ _ (record {
           answers = Answers-plain c status bytes (rw is few);
           memory_stays = rw is changes;
-          attributes_stay = rw (attributes.size_stays, attributes.faithful_stays, attributes.never_fails_stays) refl;
+          attributes_stay = rw (
+            attributes.size_stays,
+            attributes.faithful_stays,
+            attributes.never_fails_stays,
+            attributes.lent_stays,
+          ) refl;
           mode_stays = λ transfers. refl;
           unit_stays = λ idle. let not = rw free at idle in absurd (cc);
           ends = λ transfers acting. ends;

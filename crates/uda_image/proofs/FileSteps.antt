@@ -65,6 +65,7 @@ read_keeps old new n bytes is = rw is (record {
   faithful_stays = refl;
   honest_before = λ h. (and_parts _ _ h).0;
   never_fails_stays = refl;
+  lent_stays = refl;
 })
 
 pub failed_keeps : (old new : OpenImage) → new ≡ after failed old → KeepsAttributes (file_state old) (file_state new)
@@ -73,6 +74,7 @@ failed_keeps old new is = rw is (record {
   faithful_stays = refl;
   honest_before = λ h. h;
   never_fails_stays = refl;
+  lent_stays = refl;
 })
 
 pub written_keeps : (old new : OpenImage) (w u : Bool) (content : Option (List ℕ)) (n : ℕ) (bytes : List ℕ)
@@ -83,6 +85,7 @@ written_keeps old new w u content n bytes is = rw is (record {
   faithful_stays = refl;
   honest_before = λ h. h;
   never_fails_stays = refl;
+  lent_stays = refl;
 })
 
 pub failed_write_keeps : (old new : OpenImage) (w u : Bool) (content : Option (List ℕ)) (n : ℕ)
@@ -93,6 +96,7 @@ failed_write_keeps old new w u content n is = rw is (record {
   faithful_stays = refl;
   honest_before = λ h. h;
   never_fails_stays = refl;
+  lent_stays = refl;
 })
 
 pub read_many_keeps : (old new : OpenImage) (n : ℕ) (was bytes : List ℕ)
@@ -103,6 +107,7 @@ read_many_keeps old new n was bytes is = rw is (record {
   faithful_stays = refl;
   honest_before = λ h. (and_parts _ _ h).0;
   never_fails_stays = refl;
+  lent_stays = refl;
 })
 
 pub declined_keeps : (old new : OpenImage) (was bytes : List ℕ)
@@ -113,6 +118,7 @@ declined_keeps old new was bytes is = rw is (record {
   faithful_stays = refl;
   honest_before = λ h. (and_parts _ _ h).0;
   never_fails_stays = refl;
+  lent_stays = refl;
 })
 
 pub refused_keeps : (old new : OpenImage) (w u : Bool) (content : Option (List ℕ))
@@ -122,6 +128,7 @@ refused_keeps old new w u content is = rw is (record {
   faithful_stays = refl;
   honest_before = λ h. h;
   never_fails_stays = refl;
+  lent_stays = refl;
 })
 
 -- reads

@@ -1,8 +1,9 @@
 -- A store of the blocks of a unit as contracts see it, and the effect of one call on it. MSCP Basic Disk
 -- Functions Manual: a unit is an array of logical blocks of 512 bytes, numbered from 0.
 use Rattle.std.specs.Prelude.{◌≡◌, ℕ, ◌+◌, ◌-◌, ◌<◌, Bool, true, ◌||◌, ◌&&◌, List, length, Option, Some, Result}
-use Rattle.std.specs.Prelude.{slice_get, slice_set, option_map, IfSome, MatchResult}
+use Rattle.std.specs.Prelude.{slice_get, slice_set, option_map, option_and_then, IfSome, MatchResult}
 use Rattle.std.specs.List.{All}
+use denote.RawPtr.{Ptr}
 use Rattle.uda_image.specs.declared.store.StoreError.{StoreError}
 
 -- whether no read of a store fails, and whether no write does
@@ -10,15 +11,23 @@ pub record NeverFails : Type 0 where
   pub reads : Bool
   pub writes : Bool
 
+-- bytes that a program lends: their address, their number, and their values
+pub record LentBytes : Type 0 where
+  pub at : Ptr
+  pub count : ℕ
+  pub values : List ℕ
+
 -- The blocks that a program made ready for the calls on its image, counted from one block on: the first of them, the
 -- first that wasn't used yet, how many were read, how many are known to be readable, and how many may be written.
--- No effect of a call says which are ready afterwards: that is the image's own
+-- Last the bytes that the program has lent, if there are any.
+-- No effect of a call says which are ready afterwards: that is the image's own. But no call changes the lent bytes
 pub record ReadyBlocks : Type 0 where
   pub first : ℕ
   pub next : ℕ
   pub lent : ℕ
   pub checked : ℕ
   pub writable : ℕ
+  pub bytes : Option LentBytes
 
 -- a store: its blocks, their number, whether it is faithful, whether it has been honest until now, which calls
 -- never fail, how many of its calls have failed, and, if it is known, which call will fail: 1 is the next one,
@@ -32,6 +41,10 @@ pub record StoreState : Type 0 where
   pub failures : ℕ
   pub failing_call : Option ℕ
   pub ready : Option ReadyBlocks
+
+-- the bytes that a program has lent to a store
+abbrev pub lent_bytes : StoreState → Option LentBytes
+lent_bytes store = option_and_then (λ ready. ready.bytes) store.ready
 
 -- a sound store: it is faithful, or it has been honest until now
 abbrev pub is_sound : StoreState → Bool
@@ -61,13 +74,14 @@ pub record HasWholeBlocks (size : ℕ) (blocks : List (List ℕ)) : Type 0 where
   pub counted : length blocks ≡ size
   pub whole : All (λ block. length block ≡ 512) blocks
 
--- the attributes that no call changes: the number of blocks, and what the store promises. A store that is no
--- longer honest is never honest again
+-- the attributes that no call changes: the number of blocks, what the store promises, and the bytes that a program
+-- has lent to it. A store that is no longer honest is never honest again
 pub record KeepsAttributes (old new : StoreState) : Type 0 where
   pub size_stays : new.size ≡ old.size
   pub faithful_stays : new.faithful ≡ old.faithful
   pub honest_before : new.honest ≡ true → old.honest ≡ true
   pub never_fails_stays : new.never_fails ≡ old.never_fails
+  pub lent_stays : lent_bytes new ≡ lent_bytes old
 
 -- a read of block n that succeeded: the bytes are the block's, and nothing changed except that one call was
 -- made, and perhaps which blocks are ready

@@ -12,6 +12,7 @@ loop-done-init g c = record {
     faithful_stays = refl;
     honest_before = λ honest. honest;
     never_fails_stays = refl;
+    lent_stays = refl;
   };
   within = omega arith;
   erased = λ sound. erased_none _ _;

@@ -1,14 +1,14 @@
 use Rattle.std.specs.Prelude.{ℕ, ◌≤◌, IfOk, is_ok}
-use Rattle.std.proofs.Common.{◌≡◌, sym, ap, subst, ◌∙◌}
+use Rattle.std.proofs.Common.{◌≡◌, refl, sym, ap, subst, ◌∙◌}
 use Rattle.std.proofs.lemmas.Bool.{le-ltb}
 use Rattle.uda_image.specs.Store.{StoreState}
 use Rattle.uda_exec.specs.Drives.{DriveState, drive_state}
 use Rattle.uda_c.specs.contracts.controller.Controller.{the_view}
 use Rattle.uda_c.specs.ControllerState.{ControllerState}
-use Rattle.uda_c.specs.UnitImage.{unit_state, store_prepared, ReadyAnswer, status_of}
+use Rattle.uda_c.specs.UnitImage.{unit_state, store_prepared, allow_answer, ReadyAnswer, status_of}
 use Rattle.uda_c.specs.Controllers.{with_store}
-use Rattle.uda_c.specs.BlockRange.{AllowsBlocks}
-use Rattle.uda_c.proofs.FailingUnits.{store_changes, is_handed, has_status, called_drive_is, allow_answer_is, drive_size_is, prepared_size, prepared_faithful, allows}
+use Rattle.uda_c.specs.BlockRange.{AllowsBlocks, allow_answer_in, size_in}
+use Rattle.uda_c.proofs.FailingUnits.{store_changes, is_handed, has_status, called_drive_is, slot_is, prepared_size, prepared_faithful, allows}
 use Rattle.uda_c.proofs.FaithfulUnits.{changed_faithful}
 use Rattle.uda_c.proofs.FittingUnits.{changed_fits}
 use Rattle.uda_c.proofs.controller.Controller.allow_blocks.Goals as goal
@@ -47,9 +47,10 @@ returns-in-Some-exchange_drive c =
     c.in-Some-exchange_drive.ensures.returned_drive (ap (λ (s : StoreState). record { store = s; hard = hard }) c.allow-allowed.ensures.state)
     c.exchange_drive.ensures.set c.put_back.ensures.back in
     let kind = sym (called_drive_is was c.args.unit c.in-Some.look drive look c.in-Some-exchange_drive.ensures.returned_drive) in
-    let exact = allow_answer_is was c.args.unit c.args.count c.args.prepared c.in-Some.look drive look
-    c.in-Some-exchange_drive.ensures.returned_drive in
-    let size = sym (drive_size_is was c.args.unit c.in-Some.look drive look c.in-Some-exchange_drive.ensures.returned_drive) in
+    let exact = sym (slot_is (allow_answer_in c.args.prepared c.args.count) (allow_answer c.args.prepared c.args.count)
+    (λ unit. refl) was c.args.unit c.in-Some.look drive look c.in-Some-exchange_drive.ensures.returned_drive) in
+    let size = sym (slot_is size_in (λ (s : StoreState). s.size) (λ unit. refl) was c.args.unit c.in-Some.look drive look
+    c.in-Some-exchange_drive.ensures.returned_drive) in
     let there = has_status was c.args.unit c.in-Some.look (le-ltb 3 c.args.unit c.if-unit-gt3.false) look in
     record {
       allows = subst (λ (old : ControllerState). AllowsBlocks old (c.args.unit, c.args.count) c.args.prepared c.status_of.result new)

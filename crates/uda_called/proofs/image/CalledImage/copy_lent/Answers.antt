@@ -7,7 +7,7 @@ use Rattle.uda_called.proofs.image.CalledImage.copy_lent.Goals as goal
 pub copy_from-requires : goal.copy_from-requires
 copy_from-requires c =
     let inside = c.self.inside in
-    let image = image_by inside.size inside.ready inside.trace in
+    let image = image_by inside.size inside.ready inside.lent inside.trace in
     let long = length_lent inside.size (bytes_in inside.lent) image c.self.invariant in
     let begins = rw (← c.self.view_is) at c.requires.begins in
     let from : inside.ready.first ≤ c.args.n = omega (arith, begins, c.self.invariant.ordered) in
@@ -17,7 +17,7 @@ copy_from-requires c =
 pub returns-clause-value : goal.returns-clause-value
 returns-clause-value c =
     let inside = c.self.inside in
-    let image = image_by inside.size inside.ready inside.trace in
+    let image = image_by inside.size inside.ready inside.lent inside.trace in
     let begins = rw (← c.self.view_is) at c.requires.begins in
     let from : inside.ready.first ≤ c.args.n = omega (arith, begins, c.self.invariant.ordered) in
     let to = rw (← c.self.view_is) at c.requires.ends in

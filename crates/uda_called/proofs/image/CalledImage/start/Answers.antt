@@ -6,5 +6,5 @@ pub invariant_of-self : goal.invariant_of-self
 invariant_of-self c =
     let inside = c.self.inside in
     let first = rw (← c.self.view_is, ← c.self.invariant.size_is) at c.requires.on_unit in
-    kept_begun inside.size (bytes_in inside.lent) (image_by inside.size inside.ready inside.trace) c.args.first
+    kept_begun inside.size (bytes_in inside.lent) (image_by inside.size inside.ready inside.lent inside.trace) c.args.first
     c.self.invariant first

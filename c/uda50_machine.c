@@ -215,19 +215,10 @@ static uint32_t least(uint32_t one, uint32_t other)
     return one < other ? one : other;
 }
 
-/* Whether the machine has the function that moves these blocks. */
-static bool can_move(const view *it, const uda50_blocks *blocks)
-{
-    const uda50_called *image = it->machine->images[blocks->unit];
-
-    return image != NULL && (blocks->use == UDA50_WRITES ? image->write != NULL : image->read != NULL);
-}
-
 /* Reads or writes the blocks of the turn in pieces, up to the first block that fails. The bytes of a Read are at `bytes`,
    one block after the other. Those of another command are there piece by piece. */
-static uint32_t move_blocks(const view *it, uda50_turn_use *turn, uint8_t *bytes)
+static uint32_t move_blocks(const view *it, uda50_turn_use *turn, const uda50_called *image, uint8_t *bytes)
 {
-    const uda50_called *image = it->machine->images[turn->blocks.unit];
     bool writes = turn->blocks.use == UDA50_WRITES, reads = turn->blocks.use == UDA50_READS;
     uint32_t lbn, wanted, moved, status = UDA50_OK;
     uint8_t *piece = bytes;
@@ -253,23 +244,42 @@ static uint32_t move_blocks(const view *it, uda50_turn_use *turn, uint8_t *bytes
 /* How a turn goes on when its blocks are moved. */
 typedef uint32_t next_step(const view *it, uda50_turn_use *turn);
 
-/* Moves the blocks of the turn, and goes on with it. */
-static uint32_t go_on_with_blocks(const view *it, uda50_turn_use *turn, next_step *go_on)
+/* Moves the blocks of the turn in pieces, and goes on with it. All blocks of a Read are moved to one place. */
+static uint32_t go_on_by_pieces(const view *it, uda50_turn_use *turn, const uda50_called *image, uint8_t *piece,
+                                next_step *go_on)
 {
-    uint8_t piece[PIECE * BLOCK], *bytes = piece;
+    bool reads = turn->blocks.use == UDA50_READS;
+    uint8_t *bytes = reads ? malloc((size_t)turn->blocks.count * BLOCK) : piece;
     uint32_t status;
 
-    if (!can_move(it, &turn->blocks))
-        return UDA50_NO_FUNCTIONS;
-    if (turn->blocks.use == UDA50_READS && turn->blocks.count > PIECE)
-        bytes = malloc((size_t)turn->blocks.count * BLOCK);
     if (bytes == NULL)
         return UDA50_NO_MEMORY;
-    status = move_blocks(it, turn, bytes);
+    status = move_blocks(it, turn, image, bytes);
     if (status == UDA50_OK)
         status = go_on(it, turn);
-    if (bytes != piece)
+    turn->lent = (uda50_image){NULL, 0};
+    if (reads)
         free(bytes);
+    return status;
+}
+
+/* Moves the blocks of the turn, and goes on with it. A few blocks that aren't written are one call of the image. */
+static uint32_t go_on_with_blocks(const view *it, uda50_turn_use *turn, next_step *go_on)
+{
+    const uda50_called *image = it->machine->images[turn->blocks.unit];
+    const uda50_blocks *blocks = &turn->blocks;
+    uint8_t piece[PIECE * BLOCK];
+    uint32_t status;
+
+    if (image == NULL || (blocks->use == UDA50_WRITES ? image->write == NULL : image->read == NULL))
+        return UDA50_NO_FUNCTIONS;
+    if (blocks->use == UDA50_WRITES || blocks->count > PIECE)
+        return go_on_by_pieces(it, turn, image, piece, go_on);
+    turn->ready = least(image->read(image->context, blocks->first, blocks->count, piece), blocks->count);
+    if (blocks->use == UDA50_READS)
+        turn->lent = (uda50_image){piece, (size_t)turn->ready * BLOCK};
+    status = go_on(it, turn);
+    turn->lent = (uda50_image){NULL, 0};
     return status;
 }
 

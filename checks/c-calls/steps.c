@@ -419,7 +419,7 @@ static void runs(uint8_t opcode)
     other_one = run;
     EXPECT(run_to_blocks(&uda, &run), UDA50_IDLE); /* it executed, delivered and rested */
     EXPECT(run.blocks.count, 0);
-    EXPECT(run.lent.length == (opcode == READ ? 2 * BLOCK : 0), true);
+    EXPECT(run.lent.at == other_one.lent.at && run.lent.length == other_one.lent.length, true);
     EXPECT(memory[BUFFER] == (opcode == READ ? 0x55 : 0x11), true);
     EXPECT(get16(response_at(2) + 10), 0);
     refused_run(&uda, &other_one, SIZE, UDA50_STALE);

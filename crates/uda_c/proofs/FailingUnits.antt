@@ -13,7 +13,7 @@ use Rattle.uda_port.specs.Port.{PortState, read_only_at}
 use Rattle.uda_c.specs.declared.call_status.CallStatus.TheVariants.{Done, NoSuchUnit, NotAttached, OtherKind}
 use Rattle.uda_c.specs.ControllerState.{ControllerState}
 use Rattle.uda_image.specs.Store.{StoreState}
-use Rattle.uda_called.specs.CalledImage.{none_ready, bytes_in, bytes_lent}
+use Rattle.uda_called.specs.CalledImage.{none_ready, bytes_in, as_lent}
 use Rattle.uda_called.specs.declared.lent.BorrowedBytes.{BorrowedBytes}
 use Rattle.uda_c.specs.declared.block_range.Prepared.{Prepared}
 use Rattle.uda_c.specs.declared.call_status.CallStatus.{CallStatus}
@@ -268,7 +268,7 @@ pub lends : (old : ControllerState) (u first : ℕ) (from : Option BorrowedBytes
     → unit_answer old u ≡ Done → ReadyAnswer (is_called_at old u) (status_of made)
     → status_of made ≡ lend_answer_in first (length (bytes_in from)) (slice_get old.port.exec.units u)
     → IfOk made (λ _. (length (bytes_in from) % 512 ≡ 0) × (first + length (bytes_in from) / 512 ≤ size_at old u))
-    → IfOk made (λ _. lent_at new u first ≡ option_map bytes_lent from)
+    → IfOk made (λ _. lent_at new u first ≡ option_map as_lent from)
     → IfErr made (λ status. status ≢ Done) → answer ≡ status_of made
     → new ≡ with_store old u (store_lent (is_ok made) first from) → LendsBlocks old (u, first) from answer new
 lends old u first from (Ok done) answer new there kind answers fits has fails is goes = record {

@@ -8,13 +8,13 @@ use Rattle.uda_port.specs.MemoryUse.{fate_of}
 use Rattle.uda_port.specs.Trace.{turn_of}
 use Rattle.uda_exec.specs.declared.block_use.BlockAccess.{BlockAccess}
 use Rattle.uda_exec.specs.declared.block_use.BlockAccess.TheVariants.{Reads}
-use Rattle.uda_called.specs.CalledImage.{bytes_lent}
+use Rattle.uda_called.specs.CalledImage.{as_lent}
 use Rattle.uda_called.specs.declared.lent.BorrowedBytes.{BorrowedBytes}
 use Rattle.uda_c.specs.BlockRange.{LendsBlocks, blocks_dropped, access_numbered, lent_in_unit, lent_at, lent_by, lent_for}
 use Rattle.uda_c.specs.ControllerState.{ControllerState}
 use Rattle.uda_c.specs.Controllers.{closed}
 use Rattle.uda_c.specs.Slots.{is_empty, empty_slot, lent_in, bytes_of_slot, slot_with}
-use Rattle.uda_c.specs.Steps.{given_back, MakesReady, TurnsWithBlocks}
+use Rattle.uda_c.specs.Steps.{with_lent_put_back, MakesReady, TurnsWithBlocks}
 use Rattle.uda_c.specs.TurnUse.{missing_of, TakesTurnAt}
 use Rattle.uda_c.specs.declared.block_range.BlockRange.{BlockRange}
 use Rattle.uda_c.specs.declared.call_status.CallStatus.{CallStatus}
@@ -54,7 +54,7 @@ lent_stays old new blocks same =
 -- the turn of a struct without those bytes is that of the struct with them
 turn_with : (before : ControllerState × List ℕ) (turn : TurnUse) (answer : CallStatus) (filled : TurnUse)
     (after : ControllerState × List ℕ) (lent : Option LentBytes) → TakesTurnAt before turn answer filled after
-    → TakesTurnAt before (given_back lent turn) answer (given_back lent filled) after
+    → TakesTurnAt before (with_lent_put_back lent turn) answer (with_lent_put_back lent filled) after
 turn_with before turn answer filled after lent takes = record {
   trace = takes.trace;
   place = takes.place;
@@ -62,7 +62,7 @@ turn_with before turn answer filled after lent takes = record {
   last_is = takes.last_is;
   rest_stays = takes.rest_stays;
   tells = takes.tells;
-  filled_is = ap (given_back lent) takes.filled_is;
+  filled_is = ap (with_lent_put_back lent) takes.filled_is;
   place_is = record { is_place = takes.place_is.is_place; asked_is = takes.place_is.asked_is };
   goes = takes.goes;
   local = takes.local;
@@ -73,10 +73,10 @@ turn_with before turn answer filled after lent takes = record {
 
 pub turns_back : (before : ControllerState × List ℕ) (turn : TurnUse) (lent : Option LentBytes) (answer : CallStatus)
     (filled : TurnUse) (ready between new : ControllerState) (memory : List ℕ) → lent ≡ lent_for ready turn.blocks
-    → MakesReady before.0 (given_back lent turn) Done ready
+    → MakesReady before.0 (with_lent_put_back lent turn) Done ready
     → TakesTurnAt (closed ready, before.1) turn answer filled (between, memory)
     → new ≡ blocks_dropped between filled.blocks
-    → TurnsWithBlocks before (given_back lent turn) answer (given_back (lent_for between filled.blocks) filled) (new, memory)
+    → TurnsWithBlocks before (with_lent_put_back lent turn) answer (with_lent_put_back (lent_for between filled.blocks) filled) (new, memory)
 turns_back before turn lent answer filled ready between new memory has makes takes drops =
     let blocks : filled.blocks ≡ turn.blocks = ap (λ (t : TurnUse). t.blocks) takes.filled_is in
     let same : lent_for between filled.blocks ≡ lent =
@@ -98,22 +98,22 @@ turns_back before turn lent answer filled ready between new memory has makes tak
 -- the same, by what its calls told
 pub turned_back : (before : ControllerState × List ℕ) (asked turn : TurnUse) (answer : CallStatus) (filled done : TurnUse)
     (ready begun between new : ControllerState) (memory : List ℕ) (left : Option BorrowedBytes)
-    → asked ≡ given_back (lent_for ready turn.blocks) turn → MakesReady before.0 asked Done ready → begun ≡ closed ready
+    → asked ≡ with_lent_put_back (lent_for ready turn.blocks) turn → MakesReady before.0 asked Done ready → begun ≡ closed ready
     → TakesTurnAt (begun, before.1) turn answer filled (between, memory) → new ≡ blocks_dropped between filled.blocks
-    → option_map bytes_lent left ≡ lent_for between filled.blocks → done ≡ given_back (option_map bytes_lent left) filled
+    → option_map as_lent left ≡ lent_for between filled.blocks → done ≡ with_lent_put_back (option_map as_lent left) filled
     → TurnsWithBlocks before asked answer done (new, memory)
 turned_back before asked turn answer filled done ready begun between new memory left is makes closes takes drops lent over =
     let base = turns_back before turn (lent_for ready turn.blocks) answer filled ready between new memory refl
     (subst (λ (t : TurnUse). MakesReady before.0 t Done ready) is makes)
     (subst (λ (c : ControllerState). TakesTurnAt (c, before.1) turn answer filled (between, memory)) closes takes) drops in
-    let ends = over ∙ ap (λ (l : Option LentBytes). given_back l filled) lent in
+    let ends = over ∙ ap (λ (l : Option LentBytes). with_lent_put_back l filled) lent in
     subst (λ (t : TurnUse). TurnsWithBlocks before t answer done (new, memory)) (sym is)
-    (subst (λ (t : TurnUse). TurnsWithBlocks before (given_back (lent_for ready turn.blocks) turn) answer t (new, memory))
+    (subst (λ (t : TurnUse). TurnsWithBlocks before (with_lent_put_back (lent_for ready turn.blocks) turn) answer t (new, memory))
     (sym ends) base)
 
 -- the bytes of a slot that were lent are its bytes again
 slot_back : (slot : Slot) (empty : Bool)
-    → slot ≡ slot_with (option_map bytes_lent (if empty then None else Some (lent_in slot))) (if empty then slot else empty_slot)
+    → slot ≡ slot_with (option_map as_lent (if empty then None else Some (lent_in slot))) (if empty then slot else empty_slot)
 slot_back slot true = refl
 slot_back slot false = refl
 
@@ -121,7 +121,7 @@ pub reads_lent : (turn : TurnUse) (access : Option BlockAccess) (old new : Contr
     (answer : CallStatus) → answer ≡ Done → Some Reads ≡ access
     → LendsBlocks old (turn.blocks.unit, turn.blocks.first) (bytes_of_slot turn.lent) answer new
     → IsLeftIn answer turn.lent slot
-    → turn ≡ given_back (lent_by access (lent_at new turn.blocks.unit turn.blocks.first)) (record turn { lent = slot })
+    → turn ≡ with_lent_put_back (lent_by access (lent_at new turn.blocks.unit turn.blocks.first)) (record turn { lent = slot })
 reads_lent turn access old new slot answer done reads lends (inr (refused, same)) = absurd (refused done)
 reads_lent turn access old new slot answer done reads lends (inl (same, emptied)) =
     ap (λ (s : Slot). record turn { lent = s }) (slot_back turn.lent (is_empty turn.lent)

@@ -3,7 +3,7 @@ use Rattle.std.specs.Prelude.{◌≡◌, ◌≢◌, ℕ, ◌+◌, ◌≤◌, ◌
 use Rattle.std.specs.Prelude.{nat_lt, slice_get, option_map, if◌then◌else◌}
 use Rattle.uda_image.specs.Limits.{store_limit}
 use Rattle.uda_image.specs.Store.{LentBytes}
-use Rattle.uda_called.specs.CalledImage.{bytes_in, bytes_lent}
+use Rattle.uda_called.specs.CalledImage.{bytes_in, as_lent}
 use Rattle.uda_called.specs.declared.lent.BorrowedBytes.{BorrowedBytes}
 use Rattle.uda_exec.specs.declared.block_use.BlockAccess.{BlockAccess}
 use Rattle.uda_exec.specs.declared.block_use.BlockAccess.TheVariants.{Reads, Checks, Writes}
@@ -124,7 +124,7 @@ pub record LendsBlocks (old : ControllerState) (place : ℕ × ℕ) (from : Opti
   pub fits : answer ≡ Done
       → (length (bytes_in from) % 512 ≡ 0) × (place.1 + length (bytes_in from) / 512 ≤ size_at old place.0)
   pub lent : answer ≡ Done → new ≡ with_store old place.0 (store_lent true place.1 from)
-  pub has : answer ≡ Done → lent_at new place.0 place.1 ≡ option_map bytes_lent from
+  pub has : answer ≡ Done → lent_at new place.0 place.1 ≡ option_map as_lent from
   pub refused : answer ≢ Done → new ≡ old
 
 -- the next blocks of a unit's image are ready, which C prepared in this way: the image has as many; or nothing changes

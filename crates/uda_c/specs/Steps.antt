@@ -152,8 +152,8 @@ abbrev pub has_bytes : TurnUse → Bool
 has_bytes turn = if turn.blocks.access == 1 then length turn.lent.held == 512 * turn.ready else true
 
 -- the struct with bytes that C has lent, if there are any
-abbrev pub given_back : Option LentBytes → TurnUse → TurnUse
-given_back lent turn = record turn { lent = slot_with lent turn.lent }
+abbrev pub with_lent_put_back : Option LentBytes → TurnUse → TurnUse
+with_lent_put_back lent turn = record turn { lent = slot_with lent turn.lent }
 
 -- the first `ready` blocks of the struct are made ready, in the way of this use, of an image of which none was
 abbrev pub MakesBlocksReady : Option BlockAccess → ControllerState → TurnUse → CallStatus → ControllerState → Type 0

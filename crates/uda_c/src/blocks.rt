@@ -6,8 +6,8 @@ ghost use Rattle.uda_c.specs.declared.call_status.CallStatus.TheVariants.{Done};
 ghost use Rattle.uda_c.specs.BlockRange.{AttachesCalled, LendsBlocks, AllowsBlocks, range_reported, with_none_ready};
 ghost use Rattle.uda_c.specs.BlockRange.{access_numbered, blocks_dropped, lent_at, lent_by, lent_for};
 ghost use Rattle.uda_c.specs.Slots.{bytes_of_slot};
-ghost use Rattle.uda_c.specs.Steps.{MakesReady, MakesBlocksReady, given_back, emptied, GetsWritten, CopiesWritten};
-ghost use Rattle.uda_called.specs.CalledImage.{bytes_lent};
+ghost use Rattle.uda_c.specs.Steps.{MakesReady, MakesBlocksReady, with_lent_put_back, emptied, GetsWritten, CopiesWritten};
+ghost use Rattle.uda_called.specs.CalledImage.{as_lent};
 ghost use Rattle.uda_port.specs.BlockUse.{blocks_of};
 ghost use Rattle.uda_port.specs.Plan.{IsPlan};
 ghost use Rattle.uda_c.specs.UnitImage.{status_of};
@@ -81,7 +81,7 @@ impl Controller {
     /// turn reads them. Fails if there are fewer, or other bytes. Then it lends none.
     pub(crate) fn make_ready(&mut self, turn: &mut TurnUse) -> CallStatus
         ensures ready { MakesReady self.old turn.old result self.new }
-        ensures lent { result ≡ Done → turn.old ≡ given_back (lent_for self.new turn.new.blocks) turn.new }
+        ensures lent { result ≡ Done → turn.old ≡ with_lent_put_back (lent_for self.new turn.new.blocks) turn.new }
         ensures refused { result ≢ Done → turn.new ≡ turn.old }
     {
         let blocks = turn.blocks;
@@ -99,7 +99,7 @@ impl Controller {
     fn make_blocks_ready(&mut self, turn: &mut TurnUse) -> CallStatus
         ensures ready { MakesBlocksReady (access_numbered turn.old.blocks.access)
             (with_none_ready self.old turn.old.blocks.unit turn.old.blocks.first) turn.old result self.new }
-        ensures lent { result ≡ Done → turn.old ≡ given_back (lent_by (access_numbered turn.new.blocks.access)
+        ensures lent { result ≡ Done → turn.old ≡ with_lent_put_back (lent_by (access_numbered turn.new.blocks.access)
             (lent_at self.new turn.new.blocks.unit turn.new.blocks.first)) turn.new }
         ensures refused { result ≢ Done → turn.new ≡ turn.old }
     {
@@ -125,7 +125,7 @@ impl Controller {
     /// Drops what is ready of the image of these blocks, if there are any. Returns the bytes that C has lent for them.
     pub(crate) fn drop_blocks(&mut self, blocks: BlockRange) -> Option<BorrowedBytes>
         ensures dropped { self.new ≡ blocks_dropped self.old blocks }
-        ensures lent { option_map bytes_lent result ≡ lent_for self.old blocks }
+        ensures lent { option_map as_lent result ≡ lent_for self.old blocks }
     {
         if blocks.count != 0 {
             let lent = self.begin(blocks.unit, blocks.first);
@@ -140,7 +140,7 @@ impl Controller {
     // made ready from block `first` on then.
     fn begin(&mut self, unit: u32, first: u32) -> Option<BorrowedBytes>
         ensures begun { self.new ≡ with_none_ready self.old unit first }
-        ensures lent { option_map bytes_lent result ≡ lent_at self.old unit first }
+        ensures lent { option_map as_lent result ≡ lent_at self.old unit first }
     {
         let unit = unit as usize;
         let Some(look) = self.port.unit(unit) else {
@@ -157,8 +157,8 @@ impl Controller {
         }
     }
 
-    // Lends the bytes of a slot as those of blocks from the first of these on, of an image of which none is ready then. If
-    // it fails, they remain in the slot.
+    // Drops what is ready of the image of these blocks, and lends it the bytes of a slot, as those of its blocks from the
+    // first of these on. If it fails, they remain in the slot.
     #[tactic(auto, using(crate::proofs::Lending::bytes_taken))]
     fn lend_slot(&mut self, blocks: BlockRange, slot: &mut Slot) -> CallStatus
         ensures lends { LendsBlocks (with_none_ready self.old blocks.unit blocks.first) (blocks.unit, blocks.first)

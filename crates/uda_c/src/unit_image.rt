@@ -4,7 +4,7 @@ ghost use Rattle.std.specs.Prelude.{IfOk, IfErr, IfSome, IsOk, is_ok, is_some, n
 ghost use Rattle.std.specs.List.{concat};
 ghost use Rattle.uda_image.specs.AtOnce.{TriesToRead, TriesToWrite, ChecksBlocks};
 ghost use Rattle.uda_image.specs.Store.{Reads, Writes, KeepsAttributes, is_sound};
-ghost use Rattle.uda_called.specs.CalledImage.{zero_image, bytes_in, bytes_lent};
+ghost use Rattle.uda_called.specs.CalledImage.{zero_image, bytes_in, as_lent};
 ghost use Rattle.uda_c.specs.BorrowedImage.{IsWhole};
 ghost use Rattle.uda_c.specs.UnitImage.{unit_state, is_called, bytes_of_store, store_failing, store_lent, ReadyAnswer, status_of};
 ghost use Rattle.uda_c.specs.UnitImage.{called_begun, lent_from, lend_answer, allow_answer, store_prepared};
@@ -89,7 +89,7 @@ impl UnitImage {
     /// ready next are those from this one on. Does nothing if the image has fewer blocks.
     pub fn begin(&mut self, first: u32) -> Option<BorrowedBytes>
         ensures state { unit_state self.new ≡ called_begun first (unit_state self.old) }
-        ensures given_back { option_map bytes_lent result ≡ lent_from first (unit_state self.old) }
+        ensures given_back { option_map as_lent result ≡ lent_from first (unit_state self.old) }
     {
         let UnitImage::Called(image) = self else {
             return None;
@@ -110,7 +110,7 @@ impl UnitImage {
         ensures kind { ReadyAnswer (is_called (unit_state self.old)) (status_of result) }
         ensures fits { IfOk result (λ _. (length (bytes_in from.old) % 512 ≡ 0)
             × (first + length (bytes_in from.old) / 512 ≤ (unit_state self.old).size)) }
-        ensures has { IfOk result (λ _. lent_from first (unit_state self.new) ≡ option_map bytes_lent from.old) }
+        ensures has { IfOk result (λ _. lent_from first (unit_state self.new) ≡ option_map as_lent from.old) }
         ensures refused { IfErr result (λ status. status ≢ Done) }
         ensures taken { from.new ≡ (if is_ok result then None else from.old) }
     {

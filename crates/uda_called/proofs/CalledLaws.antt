@@ -14,7 +14,7 @@ use Rattle.uda_image.proofs.AtOnceLaws.{block_count-put, blocks_of-put, concat-p
 use Rattle.uda_image.proofs.FileSteps.{block_within, put-is-with_block}
 use Rattle.uda_image.proofs.ImageLaws.{slice_get-blocks_of, blocks_of-with_block, length-block_of}
 use Rattle.uda_called.specs.declared.lent.BorrowedBytes.{BorrowedBytes}
-use Rattle.uda_called.specs.CalledImage.{CalledBlocks, called_state, IsKept, none_ready, bytes_in, with_lent, with_blocks_lent, unlent, with_used, with_written, with_failure, zero_image}
+use Rattle.uda_called.specs.CalledImage.{CalledBlocks, called_state, IsKept, none_ready, bytes_in, with_lent, with_blocks_lent, with_none_lent, with_used, with_written, with_failure, zero_image}
 
 -- nothing is ready
 pub kept_begun : (size : ℕ) (lent : List ℕ) (image : CalledBlocks) (first : ℕ) → IsKept size lent image
@@ -58,10 +58,10 @@ kept_written size lent image n count from is there = record {
 }
 
 -- the bytes were given back
-pub kept_unlent : (size : ℕ) (lent : List ℕ) (image : CalledBlocks) → IsKept size lent image
-    → IsKept size [] (unlent image)
+pub kept_none_lent : (size : ℕ) (lent : List ℕ) (image : CalledBlocks) → IsKept size lent image
+    → IsKept size [] (with_none_lent image)
 unfolding part
-kept_unlent size lent image is = record {
+kept_none_lent size lent image is = record {
   size_is = is.size_is;
   whole = is.whole;
   ordered = is.ordered;

@@ -48,9 +48,9 @@ begun_at first image = record image { ready = none_ready first }
 abbrev pub has_room : ReadyBlocks → ℕ → ℕ → ℕ → Bool
 has_room ready size these count = nat_le (ready.first + these + count) size
 
--- the bytes that a program lends
-abbrev pub bytes_lent : BorrowedBytes → LentBytes
-bytes_lent lent = record { at = lent.at; count = lent.len; values = lent.held }
+-- the bytes that a program lends, as a store has them
+abbrev pub as_lent : BorrowedBytes → LentBytes
+as_lent lent = record { at = lent.at; count = lent.len; values = lent.held }
 
 -- the values of the bytes that a program lends, of which there may be none
 abbrev pub bytes_in : Option BorrowedBytes → List ℕ
@@ -67,7 +67,7 @@ can_lend ready size first bytes =
 -- the blocks of these bytes are lent
 abbrev pub ready_lent : Option BorrowedBytes → ReadyBlocks → ReadyBlocks
 ready_lent from ready =
-    record ready { lent = length (bytes_in from) / 512; bytes = option_map bytes_lent from }
+    record ready { lent = length (bytes_in from) / 512; bytes = option_map as_lent from }
 
 -- the blocks of these bytes are lent, from this one on
 abbrev pub with_lent : ℕ → Option BorrowedBytes → CalledBlocks → CalledBlocks
@@ -83,9 +83,9 @@ with_blocks_lent first from store = record store {
   ready = option_map (ready_lent from) store.ready;
 }
 
--- no bytes are lent
-abbrev pub unlent : CalledBlocks → CalledBlocks
-unlent image = record image { ready = record image.ready { lent = 0; bytes = None } }
+-- no bytes are lent, and no block
+abbrev pub with_none_lent : CalledBlocks → CalledBlocks
+with_none_lent image = record image { ready = record image.ready { lent = 0; bytes = None } }
 
 -- as many blocks follow those that are checked, or writable
 abbrev pub can_check : ReadyBlocks → ℕ → ℕ → Bool
@@ -148,7 +148,7 @@ ready_blocks ready lent = record {
   lent = ready.lent;
   checked = ready.checked;
   writable = ready.writable;
-  bytes = option_map bytes_lent lent;
+  bytes = option_map as_lent lent;
 }
 
 abbrev pub image_by : ℕ → Ready → Option BorrowedBytes → FileTrace → CalledBlocks

@@ -8,7 +8,7 @@ ghost use Rattle.uda_image.specs.Limits.{store_limit};
 ghost use Rattle.uda_image.specs.Store.{Reads, Writes, KeepsAttributes};
 ghost use Rattle.uda_image.specs.StoreLaws.{block_count-le, HasWholeBlocks-blocks_of};
 ghost use Rattle.uda_called.specs.CalledImage.{called_state, none_ready, zero_image, begun_at, can_lend, with_lent, with_blocks_lent};
-ghost use Rattle.uda_called.specs.CalledImage.{bytes_in, bytes_lent, noted_lent, unlent};
+ghost use Rattle.uda_called.specs.CalledImage.{bytes_in, as_lent, noted_lent, with_none_lent};
 ghost use Rattle.uda_called.specs.CalledImage.{can_check, can_allow, has_room, with_checked, with_writable, are_ready};
 ghost use Rattle.uda_called.specs.CalledImage.{with_failure, with_used, with_written, checked_from, ready_blocks};
 
@@ -94,8 +94,8 @@ impl CalledImage {
         })
     }
 
-    /// Drops what is ready. The blocks that are made ready next are those from block `first` on. Returns false and
-    /// changes nothing if the image has fewer blocks.
+    /// Drops what is ready, with the lent bytes. The blocks that are made ready next are those from block `first` on.
+    /// Returns false and changes nothing if the image has fewer blocks.
     pub fn begin(&mut self, first: u32) -> bool
         ensures fits { result ≡ nat_le first (block_count_of self.old.bytes) }
         ensures begun { self.new ≡ (if result then begun_at first self.old else self.old) }
@@ -107,7 +107,7 @@ impl CalledImage {
         true
     }
 
-    // Drops what is ready.
+    // Drops what is ready, with the lent bytes.
     fn start(&mut self, first: u32)
         requires on_unit { first ≤ block_count_of self.old.bytes }
         ensures begun { self.new ≡ begun_at first self.old }
@@ -147,8 +147,8 @@ impl CalledImage {
 
     /// Gives back the bytes that the program lends, if there are any. No block is lent then.
     pub fn give_back(&mut self) -> Option<BorrowedBytes>
-        ensures bytes { option_map bytes_lent result ≡ self.old.ready.bytes }
-        ensures unlent { self.new ≡ unlent self.old }
+        ensures bytes { option_map as_lent result ≡ self.old.ready.bytes }
+        ensures none_lent { self.new ≡ with_none_lent self.old }
     {
         self.ready = Ready {
             lent: 0,

@@ -19,8 +19,8 @@ pub record LentBytes : Type 0 where
 
 -- The blocks that a program made ready for the calls on its image, counted from one block on: the first of them, the
 -- first that wasn't used yet, how many were read, how many are known to be readable, and how many may be written.
--- Last the bytes that the program has lent, if there are any.
--- No effect of a call says which are ready afterwards: that is the image's own. But no call changes the lent bytes
+-- It ends with the bytes that the program has lent, if there are any.
+-- No effect of a call says which blocks are ready afterwards: that is the image's own. But no call changes the lent bytes
 pub record ReadyBlocks : Type 0 where
   pub first : ℕ
   pub next : ℕ

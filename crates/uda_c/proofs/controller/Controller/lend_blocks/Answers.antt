@@ -4,7 +4,7 @@ use Rattle.std.specs.Prelude.{is_ok, is_some, option_map, if◌then◌else◌, I
 use Rattle.uda_image.specs.Store.{StoreState}
 use Rattle.uda_disk.specs.Units.{UnitState}
 use Rattle.uda_exec.specs.Drives.{DriveState, drive_state, info_at}
-use Rattle.uda_called.specs.CalledImage.{bytes_in, bytes_lent}
+use Rattle.uda_called.specs.CalledImage.{bytes_in, as_lent}
 use Rattle.uda_c.specs.contracts.controller.Controller.{the_view}
 use Rattle.uda_c.specs.declared.call_status.CallStatus.TheVariants.{Done, NoSuchUnit, NotAttached}
 use Rattle.uda_c.specs.ControllerState.{ControllerState}
@@ -82,7 +82,7 @@ returns-in-Some-exchange_drive c =
     ap (λ (n : ControllerState). lent_at n u first) is
     ∙ slot_after (lent_in_unit first) (lent_from first) (λ unit. refl) was u c.in-Some.look drive look back lent
     ∙ sym (ap (lent_from first) store) in
-    let has : IfOk made (λ _. lent_at new u first ≡ option_map bytes_lent from) =
+    let has : IfOk made (λ _. lent_at new u first ≡ option_map as_lent from) =
     if_ok made (λ e. after ∙ e) c.lend-lent.ensures.has in
     let fits = rw (kind, size) at c.lend-lent.ensures.fits in
     let lent_so = lends begun u first from made c.status_of.result new there

@@ -134,8 +134,9 @@ uint32_t uda50_get_written(uda50 *handle, const uint8_t *window, size_t length, 
    before. A missing address is treated as by the calls over mapped memory.
 
    The bytes of `lent` are the library's during the call, as those of an image. It reads them in place. When it returns,
-   `lent` is as it was, with the same bytes. A turn without blocks, and one that doesn't read them, ignores `lent`. A
-   Write is written before this call, so its end message tells which blocks were written.
+   `lent` is as it was, with the same bytes. They must exist in each call that gets the struct, so empty `lent` before you
+   free them. A turn without blocks, and one that doesn't read them, ignores `lent`. A Write is written before this call,
+   so its end message tells which blocks were written.
 
    Returns what uda50_turn does, or the first that holds of UDA50_NO_CONTROLLER, UDA50_STALE, UDA50_BAD_LENGTH, also for
    a `size` that is too small, and UDA50_TOO_LARGE. Then UDA50_BAD_LENGTH if `ready` is above `blocks.count`, or `lent`
@@ -145,10 +146,11 @@ uint32_t uda50_turn_at(uda50 *handle, uint8_t *window, size_t length, uda50_turn
 
 /* ---- Runs over map registers ---- */
 
-/* Runs as many turns as `turns` of the struct says, or fewer, over `memory`, which the bus reaches through `map` and which may have any
-   length. It stops after a turn that is UDA50_IDLE or UDA50_DEAD. It also stops before each turn that uses blocks of a
-   called image, and returns UDA50_NEEDS_BLOCKS. So it takes the place of all other steps except uda50_get_written, and
-   the emulator only moves the blocks. It allocates nothing. The controller may be one without called images.
+/* Runs as many turns as `turns` of the struct says, or fewer, over `memory`, which the bus reaches through `map` and
+   which may have any length. It stops after a turn that is UDA50_IDLE or UDA50_DEAD. It also stops before each turn that
+   uses blocks of a called image, and returns UDA50_NEEDS_BLOCKS. So it takes the place of all other steps except
+   uda50_get_written, and the emulator only moves the blocks. It allocates nothing. The controller may be one without
+   called images.
 
    A run begins with a struct that is zero except for `size`, `controller` and `turns`. The window has as many bytes as
    the bus has addresses, and what is in it then has no influence.
@@ -161,8 +163,8 @@ uint32_t uda50_turn_at(uda50 *handle, uint8_t *window, size_t length, uda50_turn
    been taken before the stop, so an interrupt request may be pending. Take it when the run is over: uda50_take_interrupt
    makes the struct stale.
 
-   Otherwise it returns what the last turn did, or UDA50_IDLE if there was none. The struct has no blocks then, and may
-   begin another run after `turns` is set again.
+   Otherwise it returns what the last turn did, or UDA50_IDLE if there was none. The struct has no blocks then, and its
+   `lent` is as it was. It may begin another run after `turns` is set again.
 
    A call is refused with the first that holds of these. Then no turn was taken, and nothing has changed:
      - UDA50_NO_CONTROLLER.

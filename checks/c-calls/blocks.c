@@ -1124,6 +1124,31 @@ static void missing_memory(void)
     expect_told(UDA50_EXECUTED);
 }
 
+/* Up to 32 blocks are one call of the image. Only a Read of more allocates. */
+static void sizes_of_commands(void)
+{
+    static const uint8_t opcodes[] = { READ, ACCESS, WRITE };
+    static const uint32_t counts[] = { 1, 31, 32, 33, 64, 65 };
+
+    begin(CALLS);
+    for (uint32_t n = 0; n < 18; n++) {
+        uint32_t count = counts[n % 6];
+
+        fill();
+        make_pending(opcodes[n / 6], count * BLOCK);
+        allocations = 0;
+        memset(&moved, 0, sizeof moved);
+        EXPECT(uda50_machine_turn(&called.uda, &called.reached), UDA50_EXECUTED);
+        EXPECT(allocations, n / 6 == 0 && count > PIECE ? 1 : 0);
+        EXPECT(moved.calls, (count + PIECE - 1) / PIECE);
+        EXPECT(moved.first == 5 && moved.end == 5 + count, true);
+        see();
+        if (n / 6 == 0)
+            EXPECT(memcmp(memory + BUFFER, called.disks[0] + 5 * BLOCK, count * BLOCK), 0);
+        EXPECT(uda50_machine_run(&called.uda, TURNS, &called.reached), UDA50_IDLE);
+    }
+}
+
 static uint32_t blocks_moved;
 
 static uint32_t read_nothing(void *context, uint32_t lbn, uint32_t count, uint8_t *to)
@@ -1399,6 +1424,7 @@ int main(int count, char **arguments)
     ended_runs();
     run_after_attention();
     missing_memory();
+    sizes_of_commands();
     copies();
     refused_copies();
     refused_calls();

@@ -327,7 +327,7 @@ allows old u count way (Err status) answer new there kind answers fits fails is 
 
 -- ---- nothing is ready
 
--- a part of a store that is so changed in two cases, and the same in both
+-- a part of a store that stays when its ready blocks are dropped
 begun_part : {A : Type 0} (part : StoreState → A) (first : ℕ) (store : StoreState) (called there : Bool)
     → part (record store { ready = Some (none_ready first) }) ≡ part store
     → part (if called then (if there then record store { ready = Some (none_ready first) } else store) else store)

@@ -73,7 +73,7 @@ with_none_ready c unit first = if is_called_at c unit then with_store c unit (st
 abbrev pub blocks_dropped : ControllerState → BlockRange → ControllerState
 blocks_dropped c blocks = if blocks.count == 0 then c else with_none_ready c blocks.unit blocks.first
 
--- ---- bytes that C has lent
+-- ---- bytes that C has lent for ready blocks
 
 -- those of an image, if blocks can be made ready from this one on
 abbrev pub lent_in_unit : ℕ → Option (Option UnitState) → Option LentBytes

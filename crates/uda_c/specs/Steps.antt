@@ -174,8 +174,9 @@ pub record MakesReady (old : ControllerState) (turn : TurnUse) (answer : CallSta
   pub made : nat_lt turn.blocks.count turn.ready ≡ false → has_bytes turn ≡ true → turn.blocks.count ≢ 0
       → MakesBlocksReady (access_numbered turn.blocks.access) (blocks_dropped old turn.blocks) turn answer new
 
--- A turn over a window, of which the struct's ready blocks are first made ready. After it none of them is, and the bytes
--- that C has lent are in the struct, as they were. If they can't be made ready, there is no turn, and the struct stays.
+-- A turn over a window. Before it the struct's first `ready` blocks are made ready. After it none of them is, and the
+-- bytes that C has lent are in the struct, as they were. If the blocks can't be made ready, there is no turn, and the
+-- struct stays.
 pub record TurnsWithBlocks (before : ControllerState × List ℕ) (asked : TurnUse) (answer : CallStatus)
     (filled : TurnUse) (after : ControllerState × List ℕ) : Type 0 where
   pub made : CallStatus

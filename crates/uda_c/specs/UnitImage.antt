@@ -77,7 +77,7 @@ store_begun first store =
 abbrev pub called_begun : ℕ → StoreState → StoreState
 called_begun first store = if is_called store then store_begun first store else store
 
--- the bytes that C has lent to an image, if blocks can be made ready from this one on
+-- the bytes that C has lent for ready blocks of an image, if blocks can be made ready from this one on
 abbrev pub lent_from : ℕ → StoreState → Option LentBytes
 lent_from first store = if nat_le first store.size then lent_bytes store else None
 

@@ -136,8 +136,8 @@ impl Controller {
         None
     }
 
-    // Drops what is ready of a unit's image, if C reads and writes it, and returns the bytes that C has lent. Blocks are
-    // made ready from block `first` on then.
+    // Drops what is ready of a unit's image, if C reads and writes it, and returns the bytes that C has lent for ready
+    // blocks. Blocks are made ready from block `first` on then. Does nothing if the image has fewer blocks.
     fn begin(&mut self, unit: u32, first: u32) -> Option<BorrowedBytes>
         ensures begun { self.new ≡ with_none_ready self.old unit first }
         ensures lent { option_map as_lent result ≡ lent_at self.old unit first }

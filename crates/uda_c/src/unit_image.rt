@@ -85,8 +85,8 @@ impl UnitImage {
         }
     }
 
-    /// Drops what is ready of blocks that C reads and writes, and returns the bytes that C has lent. Those that are made
-    /// ready next are those from this one on. Does nothing if the image has fewer blocks.
+    /// Drops what is ready of blocks that C reads and writes, and returns the bytes that C has lent for them. Those that
+    /// are made ready next are those from this one on. Does nothing if the image has fewer blocks.
     pub fn begin(&mut self, first: u32) -> Option<BorrowedBytes>
         ensures state { unit_state self.new ≡ called_begun first (unit_state self.old) }
         ensures given_back { option_map as_lent result ≡ lent_from first (unit_state self.old) }

@@ -78,7 +78,7 @@ abbrev pub AreWellFormedIfSound : Units → Type 0
 AreWellFormedIfSound units = All IsWellFormedIfSound units
 
 -- the attributes that no request changes, whatever the store: the size, the hardware protection, whether
--- the store is faithful, whether it never fails, and the bytes that a program has lent to it
+-- the store is faithful, whether it never fails, and the bytes that are lent for its ready blocks
 pub record FixedAttributes : Type 0 where
   pub size : ℕ
   pub hard : Bool

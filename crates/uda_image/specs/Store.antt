@@ -11,15 +11,15 @@ pub record NeverFails : Type 0 where
   pub reads : Bool
   pub writes : Bool
 
--- bytes that a program lends: their address, their number, and their values
+-- bytes that a program lends for ready blocks: their address, their number, and their values
 pub record LentBytes : Type 0 where
   pub at : Ptr
   pub count : ℕ
   pub values : List ℕ
 
 -- The blocks that a program made ready for the calls on its image, counted from one block on: the first of them, the
--- first that wasn't used yet, how many were read, how many are known to be readable, and how many may be written.
--- It ends with the bytes that the program has lent, if there are any.
+-- first that wasn't used yet, how many were read, how many are known to be readable, how many may be written, and the
+-- bytes that the program has lent for those that were read, if there are any.
 -- No effect of a call says which blocks are ready afterwards: that is the image's own. But no call changes the lent bytes
 pub record ReadyBlocks : Type 0 where
   pub first : ℕ
@@ -42,7 +42,7 @@ pub record StoreState : Type 0 where
   pub failing_call : Option ℕ
   pub ready : Option ReadyBlocks
 
--- the bytes that a program has lent to a store
+-- the bytes that a program has lent for the ready blocks of a store
 abbrev pub lent_bytes : StoreState → Option LentBytes
 lent_bytes store = option_and_then (λ ready. ready.bytes) store.ready
 
@@ -74,8 +74,8 @@ pub record HasWholeBlocks (size : ℕ) (blocks : List (List ℕ)) : Type 0 where
   pub counted : length blocks ≡ size
   pub whole : All (λ block. length block ≡ 512) blocks
 
--- the attributes that no call changes: the number of blocks, what the store promises, and the bytes that a program
--- has lent to it. A store that is no longer honest is never honest again
+-- the attributes that no call changes: the number of blocks, what the store promises, and the bytes that are lent for
+-- its ready blocks. A store that is no longer honest is never honest again
 pub record KeepsAttributes (old new : StoreState) : Type 0 where
   pub size_stays : new.size ≡ old.size
   pub faithful_stays : new.faithful ≡ old.faithful

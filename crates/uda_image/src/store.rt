@@ -49,8 +49,8 @@ impl Error for StoreError {}
 /// - whether it is faithful, whether it has been honest until now, and whether its reads and its writes never fail;
 /// - how many of its calls have failed;
 /// - if it is known, which later call will fail; no other will;
-/// - if a program makes blocks ready for the calls, which are ready, and the bytes that it has lent. No call changes
-///   these bytes.
+/// - if a program makes blocks ready for the calls, which are ready, and the bytes that it has lent for them. No call
+///   changes these bytes.
 ///
 /// A faithful store returns the data that was written last. A call of it that fails changes no block except
 /// the one that was being written. A store whose reads never fail returns `Ok` from every read, and so for writes.

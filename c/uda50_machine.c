@@ -263,7 +263,7 @@ static uint32_t go_on_by_pieces(const view *it, uda50_turn_use *turn, const uda5
     return status;
 }
 
-/* Moves the blocks of the turn, and goes on with it. A few blocks that aren't written are one call of the image. */
+/* Moves the blocks of the turn, and goes on with it. Up to PIECE blocks that aren't written are one call of the image. */
 static uint32_t go_on_with_blocks(const view *it, uda50_turn_use *turn, next_step *go_on)
 {
     const uda50_called *image = it->machine->images[turn->blocks.unit];

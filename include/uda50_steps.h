@@ -4,9 +4,9 @@
    Over map registers uda50_run_to_blocks takes whole turns, and the emulator only moves the blocks of called images.
    Over other memory a turn is taken by steps.
 
-   The emulator has a window with as many bytes as the bus has addresses. Memory that is one array is its own window. In
-   a uda50_turn_use it sets `size`, and `controller` to a number that none of its other controllers has, such as the
-   address of the handle. Then each turn is:
+   The emulator has a window with as many bytes as the bus has addresses. Memory that is one array is its own window. It
+   sets a uda50_turn_use to zero, then `size`, and `controller` to a number that none of its other controllers has, such
+   as the address of the handle. Then each turn is:
      1. uda50_get_descriptors begins it. The emulator copies these ranges into the window from the guest's memory, and
         sets the bits of `missing` for the first and the third of them.
      2. uda50_get_body. The emulator copies that range if `reads_body` is 1, and sets that bit of `missing` in any case.
@@ -133,10 +133,11 @@ uint32_t uda50_get_written(uda50 *handle, const uint8_t *window, size_t length, 
    first that isn't, the command fails: it ends with status 0x000B, a drive error, and the byte count of the blocks
    before. A missing address is treated as by the calls over mapped memory.
 
-   The bytes of `lent` are the library's during the call, as those of an image. It reads them in place. When it returns,
-   `lent` is as it was, with the same bytes. They must exist in each call that gets the struct, so empty `lent` before you
-   free them. A turn without blocks, and one that doesn't read them, ignores `lent`. A Write is written before this call,
-   so its end message tells which blocks were written.
+   The bytes of `lent` are the library's during the call, as those of an image. The library reads them in place. When the
+   call returns, `lent` is as it was, with the same bytes. They must exist in each call that gets the struct, so empty
+   `lent` before you free them. uda50_get_descriptors empties it too, and so does a run that stops at blocks, so keep the
+   address of your buffer elsewhere. A turn without blocks, and one that doesn't read them, ignores `lent`. A Write is
+   written before this call, so its end message tells which blocks were written.
 
    Returns what uda50_turn does, or the first that holds of UDA50_NO_CONTROLLER, UDA50_STALE, UDA50_BAD_LENGTH, also for
    a `size` that is too small, and UDA50_TOO_LARGE. Then UDA50_BAD_LENGTH if `ready` is above `blocks.count`, or `lent`
@@ -152,8 +153,8 @@ uint32_t uda50_turn_at(uda50 *handle, uint8_t *window, size_t length, uda50_turn
    uda50_get_written, and the emulator only moves the blocks. It allocates nothing. The controller may be one without
    called images.
 
-   A run begins with a struct that is zero except for `size`, `controller` and `turns`. The window has as many bytes as
-   the bus has addresses, and what is in it then has no influence.
+   A run begins with a struct without blocks: one that is zero except for `size`, `controller` and `turns`, or the struct
+   of a run that is over. The window has as many bytes as the bus has addresses, and what is in it then has no influence.
 
    After UDA50_NEEDS_BLOCKS the window has what the turn reads. The struct has the `place`, the `missing` addresses and
    the `blocks` of the turn, and in `turns` how many turns are left. Its `ready` is 0 and its `lent` empty. It has no

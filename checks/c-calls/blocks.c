@@ -403,23 +403,23 @@ static void fill(void)
 
 /* ---- Each block of a command fails ---- */
 
-/* Executes a command of 70 blocks, or a partial block less, with a failing one or with none. */
-static void fail_at(uint8_t opcode, uint32_t failing, bool partial)
+/* Executes a command of this many blocks, or a partial block less, with a failing one or with none. */
+static void fail_at(uint8_t opcode, uint32_t count, uint32_t failing, bool partial)
 {
-    enum { COUNT = 70, FIRST = 11 };
+    enum { FIRST = 11 };
     static uint8_t disk[LARGEST * BLOCK], before[MEMORY];
-    uint32_t done = failing < COUNT ? failing : COUNT, bytes = COUNT * BLOCK - (partial ? 100 : 0);
+    uint32_t done = failing < count ? failing : count, bytes = count * BLOCK - (partial ? 100 : 0);
 
     fill();
     memcpy(disk, called.disks[0], sizeof disk);
     if (opcode == COMPARE)
-        memcpy(memory + BUFFER, disk + FIRST * BLOCK, COUNT * BLOCK);
+        memcpy(memory + BUFFER, disk + FIRST * BLOCK, count * BLOCK);
     memcpy(before, memory, MEMORY);
     fails_after = failing;
-    EXPECT(status_after((command){ opcode, 0, failing, bytes, FIRST }), failing < COUNT ? DRIVE_ERROR : 0);
-    EXPECT(bytes_told(), failing < COUNT ? done * BLOCK : bytes);
+    EXPECT(status_after((command){ opcode, 0, failing, bytes, FIRST }), failing < count ? DRIVE_ERROR : 0);
+    EXPECT(bytes_told(), failing < count ? done * BLOCK : bytes);
     fails_after = NEVER;
-    for (uint32_t n = 0; n < COUNT * BLOCK; n++) {
+    for (uint32_t n = 0; n < count * BLOCK; n++) {
         uint8_t old = disk[FIRST * BLOCK + n], written = opcode == ERASE || n >= bytes ? 0 : before[BUFFER + n];
         bool writes = opcode == WRITE || opcode == ERASE, told = n < done * BLOCK;
 
@@ -428,7 +428,7 @@ static void fail_at(uint8_t opcode, uint32_t failing, bool partial)
         EXPECT(memory[BUFFER + n], opcode == READ && told && n < bytes ? old : before[BUFFER + n]);
     }
     EXPECT(memcmp(disk, called.disks[0], FIRST * BLOCK), 0);
-    EXPECT(memcmp(disk + (FIRST + COUNT) * BLOCK, called.disks[0] + (FIRST + COUNT) * BLOCK, sizeof disk - (FIRST + COUNT) * BLOCK), 0);
+    EXPECT(memcmp(disk + (FIRST + count) * BLOCK, called.disks[0] + (FIRST + count) * BLOCK, sizeof disk - (FIRST + count) * BLOCK), 0);
 }
 
 static void each_block_fails(void)
@@ -439,9 +439,12 @@ static void each_block_fails(void)
         begin(way);
         for (uint32_t n = 0; n < sizeof opcodes; n++)
             for (uint32_t failing = 0; failing <= 70; failing += 1 + any(3))
-                fail_at(opcodes[n], failing, failing % 2 == 0);
+                fail_at(opcodes[n], 70, failing, failing % 2 == 0);
         for (uint32_t n = 0; n < sizeof opcodes; n++)
-            fail_at(opcodes[n], 70, true);
+            fail_at(opcodes[n], 70, 70, true);
+        for (uint32_t n = 0; n < sizeof opcodes; n++) /* up to PIECE blocks are one call of the image */
+            for (uint32_t failing = 0; failing <= PIECE; failing++)
+                fail_at(opcodes[n], PIECE, failing, failing % 2 == 0);
     }
 }
 
@@ -669,7 +672,7 @@ static void lent_bytes(void)
     EXPECT(memcmp(memory + BUFFER, called.disks[0] + 5 * BLOCK, BLOCK), 0);
 }
 
-/* After a turn the struct has the bytes that it lent, as they were, whether the command used them all or not. The library
+/* After a turn the struct has the bytes that C lent, as they were, whether the command used them all or not. The library
    has none of them: a Read without ready blocks gets none, and leaves its buffer as it is. */
 static void lent_for_one_turn(void)
 {
@@ -1124,26 +1127,30 @@ static void missing_memory(void)
     expect_told(UDA50_EXECUTED);
 }
 
-/* Up to 32 blocks are one call of the image. Only a Read of more allocates. */
+/* Up to PIECE blocks are one call of the image. Only a Read and a Compare Host Data of more allocate. */
 static void sizes_of_commands(void)
 {
-    static const uint8_t opcodes[] = { READ, ACCESS, WRITE };
-    static const uint32_t counts[] = { 1, 31, 32, 33, 64, 65 };
+    static const uint8_t opcodes[] = { READ, COMPARE, ACCESS, WRITE };
+    static const uint32_t counts[] = { 1, PIECE - 1, PIECE, PIECE + 1, 2 * PIECE, 2 * PIECE + 1 };
 
     begin(CALLS);
-    for (uint32_t n = 0; n < 18; n++) {
+    for (uint32_t n = 0; n < 24; n++) {
+        uint8_t opcode = opcodes[n / 6];
         uint32_t count = counts[n % 6];
 
         fill();
-        make_pending(opcodes[n / 6], count * BLOCK);
+        if (opcode == COMPARE)
+            memcpy(memory + BUFFER, called.disks[0] + 5 * BLOCK, count * BLOCK);
+        make_pending(opcode, count * BLOCK);
         allocations = 0;
         memset(&moved, 0, sizeof moved);
         EXPECT(uda50_machine_turn(&called.uda, &called.reached), UDA50_EXECUTED);
-        EXPECT(allocations, n / 6 == 0 && count > PIECE ? 1 : 0);
+        EXPECT(allocations, reads_bytes(opcode) && count > PIECE ? 1 : 0);
         EXPECT(moved.calls, (count + PIECE - 1) / PIECE);
         EXPECT(moved.first == 5 && moved.end == 5 + count, true);
+        expect_told(UDA50_EXECUTED);
         see();
-        if (n / 6 == 0)
+        if (opcode != ACCESS)
             EXPECT(memcmp(memory + BUFFER, called.disks[0] + 5 * BLOCK, count * BLOCK), 0);
         EXPECT(uda50_machine_run(&called.uda, TURNS, &called.reached), UDA50_IDLE);
     }

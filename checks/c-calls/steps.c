@@ -97,14 +97,26 @@ static void begin(uda50 *it, uint8_t opcode, uda50_turn_use *turn)
 }
 
 /* Says that `count` blocks are moved for a Read, which gets bytes of 0x55, or for a Write. */
+static uint8_t moved[2 * BLOCK];
+
 static void make_ready(uda50_turn_use *turn, uint32_t count)
 {
-    static uint8_t bytes[2 * BLOCK];
-
-    memset(bytes, 0x55, sizeof bytes);
+    memset(moved, 0x55, sizeof moved);
     turn->ready = count;
     if (turn->blocks.use == UDA50_READS)
-        turn->lent = (uda50_image){ bytes, count * BLOCK };
+        turn->lent = (uda50_image){ moved, count * BLOCK };
+}
+
+/* The bytes that were lent are as they were. */
+static void moved_stay(void)
+{
+    for (uint32_t n = 0; n < sizeof moved; n++)
+        EXPECT(moved[n], 0x55);
+}
+
+static bool is_empty(uda50_image lent)
+{
+    return lent.at == NULL && lent.length == 0;
 }
 
 /* Each step with this struct has this status, and changes neither the struct nor anything else. */
@@ -302,7 +314,9 @@ static void left_out(void)
     again.missing = 7;
     EXPECT(uda50_get_descriptors(&uda, window, SIZE, &again), UDA50_OK);
     EXPECT(uda50_get_body(&uda, window, SIZE, &again), UDA50_OK);
+    EXPECT(is_empty(again.lent), true);
     EXPECT(memcmp(&turn, &again, sizeof turn), 0);
+    moved_stay();
 
     begin(&uda, READ, &turn);
     EXPECT(uda50_save(&uda, state, sizeof state), UDA50_OK);
@@ -420,11 +434,40 @@ static void runs(uint8_t opcode)
     EXPECT(run_to_blocks(&uda, &run), UDA50_IDLE); /* it executed, delivered and rested */
     EXPECT(run.blocks.count, 0);
     EXPECT(run.lent.at == other_one.lent.at && run.lent.length == other_one.lent.length, true);
+    moved_stay();
     EXPECT(memory[BUFFER] == (opcode == READ ? 0x55 : 0x11), true);
     EXPECT(get16(response_at(2) + 10), 0);
     refused_run(&uda, &other_one, SIZE, UDA50_STALE);
     run.turns = 0;
     EXPECT(run_to_blocks(&uda, &run), UDA50_IDLE);
+}
+
+/* A run of two Reads. The bytes that were lent for the first are as they were when it stops before the second, and the
+   struct has none. After the second the struct has its bytes again. */
+static void run_of_two(void)
+{
+    uda50_turn_use run = { .size = sizeof run, .controller = (uintptr_t)&uda, .turns = 9 };
+
+    EXPECT(status_of(&uda, (command){ SET_CONTROLLER, 0, 1, 0, 0 }), 0);
+    EXPECT(status_of(&uda, (command){ ONLINE, 0, 2, 0, 0 }), 0);
+    for (uint32_t n = 0; n < COMMANDS; n++) {
+        give_response(2 + n);
+        post(n, (command){ READ, 0, 3 + n, (2 - n) * BLOCK, 1 + 4 * n });
+    }
+    uda50_read_ip(&uda);
+    EXPECT(run_to_blocks(&uda, &run), UDA50_NEEDS_BLOCKS);
+    EXPECT(run.blocks.first == 1 && run.blocks.count == 2, true);
+    make_ready(&run, 2);
+    EXPECT(run_to_blocks(&uda, &run), UDA50_NEEDS_BLOCKS);
+    EXPECT(run.blocks.first == 5 && run.blocks.count == 1, true);
+    EXPECT(run.ready, 0);
+    EXPECT(is_empty(run.lent), true);
+    moved_stay();
+    make_ready(&run, 1);
+    EXPECT(run_to_blocks(&uda, &run), UDA50_IDLE);
+    EXPECT(run.lent.at == moved && run.lent.length == BLOCK, true);
+    moved_stay();
+    EXPECT(get16(response_at(2) + 10) == 0 && get16(response_at(3) + 10) == 0, true);
 }
 
 /* A run that may take one turn takes no more. A block that isn't ready ends the command with a drive error. */
@@ -543,6 +586,7 @@ int main(void)
     set_registers();
     runs(READ);
     runs(WRITE);
+    run_of_two();
     short_runs();
     reset_run();
 #ifdef UDA50_DEBUG
